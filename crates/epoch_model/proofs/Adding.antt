@@ -1,5 +1,5 @@
 -- Lists to which each location is added once, and answers that stand in their order. Crates above cite these lemmas.
-use Rattle.std.proofs.Common.{◌≡◌, List, [], ◌∷◌, ◌++◌, map, refl, ap, ap₂, sym, subst, ◌∙◌, Bool, true, false, ◌||◌, cond, arith}
+use Rattle.std.proofs.Common.{◌≡◌, List, [], ◌∷◌, ◌++◌, map, refl, ap, ap₂, sym, subst, ◌∙◌, Bool, true, false, ◌||◌, cond}
 use Rattle.std.specs.List.{list_any, AllByRecursion, IsDistinct}
 use Rattle.std.specs.Ordering.{eq_by_cmp}
 use Rattle.std.proofs.lemmas.List.Folds.{list_any-append}
@@ -8,12 +8,9 @@ use Rattle.flow_model.specs.declared.SourceByte.{SourceByte}
 use Rattle.lists.specs.Sets.{union, has, Ascends}
 use Rattle.flow_model.specs.Orders.{loc_cmp, source_cmp}
 use Rattle.flow_model.specs.Origins.{union_over}
-use Rattle.std.proofs.lemmas.Grind.{common_steps}
 use Rattle.std.proofs.lemmas.Bool.{or_parts, or_right}
 use Rattle.std.proofs.Math.Bool.{or-false, or_assoc}
 use Rattle.std.proofs.lemmas.Cmp.{eq_by_cmp_equiv}
-use Rattle.flow_model.specs.declared.Loc.TheVariants.{Reg, Mem}
-use Rattle.flow_model.specs.Flow.{loc_eq}
 use Rattle.flow_model.proofs.Orders.{loc_total, loc_same}
 use Rattle.lists.proofs.Algebra.{tied_by}
 use Rattle.lists.proofs.Lists.{all-append}
@@ -104,14 +101,6 @@ pub union_over_same : (f g : Loc → List SourceByte) (ls : List Loc) → AllByR
 union_over_same f g [] h = refl
 union_over_same f g (l ∷ []) h = h.0
 union_over_same f g (l ∷ m ∷ ls) h = ap₂ (union source_cmp) h.0 (union_over_same f g (m ∷ ls) h.1)
-
--- ---- the order's equality is that of the flow table
-
-pub test_alike : (l m : Loc) → eq_by_cmp loc_cmp l m ≡ loc_eq l m
-test_alike (Reg r i) (Reg q j) = grind (arith, common_steps)
-test_alike (Reg r i) (Mem p) = refl
-test_alike (Mem p) (Reg r i) = refl
-test_alike (Mem p) (Mem q) = grind (arith, common_steps)
 
 -- ---- some locations, and then some more; an answer among answers
 

@@ -21,7 +21,7 @@ use Rattle.epoch_model.specs.Crossing.{wanted, crossing}
 use Rattle.epoch_model.specs.Join.{answer_to, resolved, resolved_row, rows_of, answers_of, joined}
 use Rattle.epoch_model.specs.JoinLaws.{JoinGivesRows}
 use Rattle.epoch_model.proofs.Composing.{origins_compose}
-use Rattle.epoch_model.proofs.Lists.{all-front, all-rest}
+use Rattle.lists.proofs.Lists.{all-parts}
 use Rattle.epoch_model.proofs.Adding.{any_added_all, all_had, answer_is, union_over_same}
 use Rattle.epoch_model.proofs.Sinks.{IsPlaced, sinks-all, sinks-later, sinks-split, placed-of_epoch}
 use Rattle.epoch_model.proofs.Asking.{rises_up, located-crossing}
@@ -47,8 +47,8 @@ module _ (q : Query) (trace : List StepSeen) (s : ℕ) (before : Loc → List So
       let when : s + (k.time - s) ≡ k.time = omega (arith, (h.0).0) in
       let make : List SourceByte → Row = λ sources. record { sink = k.name; sources = sources } in
       ap₂ (λ (r : Row) (rs : List Row). r ∷ rs)
-      (ap make (resolved_terms (k.time - s) k.loc (all-front _ here rest a) ∙ ap (λ (t : ℕ). origins (policy_of q) trace t k.loc) when))
-      (rows_known ks h.1 (all-rest _ here rest a))
+      (ap make (resolved_terms (k.time - s) k.loc (all-parts _ here rest a).0 ∙ ap (λ (t : ℕ). origins (policy_of q) trace t k.loc) when))
+      (rows_known ks h.1 (all-parts _ here rest a).1)
 
   module _ (c : ℕ) (e : Summary) (i : IsSummary q trace s (c - s) e) (low : s ≤ c) where
     answers_known : (ls : List Loc) → AllByRecursion IsLocation ls → AreOrigins (policy_of q) trace s before (flat_map (λ l. (e.ends l).starts) ls)
@@ -57,21 +57,21 @@ module _ (q : Query) (trace : List StepSeen) (s : ℕ) (before : Loc → List So
     answers_known (l ∷ ls) b a =
         let rest = flat_map (λ l. (e.ends l).starts) ls in
         let when : s + (c - s) ≡ c = omega (arith, low) in
-        let known = all-front _ (e.ends l).starts rest a in
+        let known = (all-parts _ (e.ends l).starts rest a).0 in
         let front = subst (λ (t : Terms). AreOrigins (policy_of q) trace s before t.starts) (i.ends l b.0) known in
         ap₂ (λ (x : List SourceByte) (xs : List (List SourceByte)). x ∷ xs)
         (ap (resolved before) (i.ends l b.0) ∙ resolved_terms (c - s) l front ∙ ap (λ (t : ℕ). origins (policy_of q) trace t l) when)
-        (answers_known ls b.1 (all-rest _ (e.ends l).starts rest a))
+        (answers_known ls b.1 (all-parts _ (e.ends l).starts rest a).1)
 
     -- where the origins at the epoch's start are known, its rows are those of its sinks, and its answers the origins at
     -- its end
     pub epoch_known : AllByRecursion (λ p. IsLocation p.loc) q.points → (ls : List Loc) → AllByRecursion IsLocation ls → AreOrigins (policy_of q) trace s before (wanted e ls)
         → (rows_of e before ≡ map (row q trace) (sinks_of_epoch q trace s (c - s))) × (answers_of e before ls ≡ map (origins (policy_of q) trace c) ls)
     epoch_known points ls b a =
-        let front = all-front _ (flat_map (λ k. k.terms.starts) e.sinks) (flat_map (λ l. (e.ends l).starts) ls) a in
-        let starts = subst (λ (ks : List SinkTerms). AreOrigins (policy_of q) trace s before (flat_map (λ k. k.terms.starts) ks)) i.sinks front in (
+        let parts = all-parts _ (flat_map (λ k. k.terms.starts) e.sinks) (flat_map (λ l. (e.ends l).starts) ls) a in
+        let starts = subst (λ (ks : List SinkTerms). AreOrigins (policy_of q) trace s before (flat_map (λ k. k.terms.starts) ks)) i.sinks parts.0 in (
           ap (map (resolved_row before)) i.sinks ∙ rows_known (sinks_of_epoch q trace s (c - s)) (placed-of_epoch q points trace s (c - s)) starts,
-          answers_known ls b (all-rest _ (flat_map (λ k. k.terms.starts) e.sinks) (flat_map (λ l. (e.ends l).starts) ls) a),
+          answers_known ls b parts.1,
         )
 
 -- what is known of each asked location is known of each wanted one

@@ -4,14 +4,6 @@ use Rattle.std.specs.List.{flat_map, list_any, AllByRecursion}
 use Rattle.lists.proofs.Lists.{all-append}
 
 module _ {X : Type 0} where
-  pub all-front : (P : X → Type 0) (xs ys : List X) → AllByRecursion P (xs ++ ys) → AllByRecursion P xs
-  all-front P [] ys a = tt
-  all-front P (x ∷ xs) ys a = (a.0, all-front P xs ys a.1)
-
-  pub all-rest : (P : X → Type 0) (xs ys : List X) → AllByRecursion P (xs ++ ys) → AllByRecursion P ys
-  all-rest P [] ys a = a
-  all-rest P (x ∷ xs) ys a = all-rest P xs ys a.1
-
   pub any_agreeing : (f g : X → Bool) (xs : List X) → AllByRecursion (λ x. f x ≡ g x) xs → list_any f xs ≡ list_any g xs
   any_agreeing f g [] h = refl
   any_agreeing f g (x ∷ xs) h = ap₂ (λ (a b : Bool). a || b) h.0 (any_agreeing f g xs h.1)

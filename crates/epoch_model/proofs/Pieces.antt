@@ -1,33 +1,26 @@
 -- What flows over a stretch depends on its steps alone. Crates above cite these lemmas.
 use Rattle.std.proofs.Common.{◌≡◌, ℕ, zero, suc, ◌+◌, ◌<◌, List, [], ◌∷◌, ◌++◌, length, refl, ap, ap₂, ◌∙◌, arith}
-use Rattle.std.specs.Prelude.{Option, Some, None}
+use Rattle.std.specs.Prelude.{Option}
 use Rattle.flow_model.specs.declared.Loc.{Loc}
 use Rattle.flow_model.specs.declared.Rule.{Rule}
 use Rattle.flow_model.specs.declared.SourceByte.{SourceByte}
 use Rattle.flow_model.specs.declared.StepSeen.{StepSeen}
 use Rattle.lists.specs.Sets.{union}
-use Rattle.flow_model.specs.Orders.{source_cmp, loc_cmp}
+use Rattle.flow_model.specs.Orders.{source_cmp}
 use Rattle.flow_model.specs.Origins.{Policy, origins, union_over, after_step, step_at}
 use Rattle.epoch_model.specs.Stretch.{locations_over, from_step, fresh_step, past, born}
 use Rattle.epoch_model.specs.StretchLaws.{HaveSameSteps, StretchesAreTheirSteps, PiecesCompose}
 use Rattle.epoch_model.proofs.Composing.{origins_compose}
 
 pub union_over_alike : (f g : Loc → List SourceByte) → ((l : Loc) → f l ≡ g l) → (ls : List Loc) → union_over f ls ≡ union_over g ls
-union_over_alike f g h [] = refl
-union_over_alike f g h (l ∷ []) = h l
-union_over_alike f g h (l ∷ m ∷ ls) = ap₂ (union source_cmp) (h l) (union_over_alike f g h (m ∷ ls))
-
-locations_over_alike : (f g : Loc → List Loc) → ((l : Loc) → f l ≡ g l) → (ls : List Loc) → locations_over f ls ≡ locations_over g ls
-locations_over_alike f g h [] = refl
-locations_over_alike f g h (l ∷ []) = h l
-locations_over_alike f g h (l ∷ m ∷ ls) = ap₂ (union loc_cmp) (h l) (locations_over_alike f g h (m ∷ ls))
+union_over_alike f g h ls = λ i. union_over (λ l. h l i) ls
 
 past_by_steps : (rule : Rule) (trace : List StepSeen) (s : ℕ) (other : List StepSeen) (r n : ℕ) → HaveSameSteps trace s other r n → (l : Loc)
     → past rule trace s n l ≡ past rule other r n l
 past_by_steps rule trace s other r zero h l = refl
 past_by_steps rule trace s other r (suc n) h l =
     ap (λ (o : Option StepSeen). locations_over (past rule trace s n) (from_step rule o l)) (h n (omega arith))
-    ∙ locations_over_alike _ _ (past_by_steps rule trace s other r n (λ i less. h i (omega arith))) (from_step rule (step_at other (r + n)) l)
+    ∙ λ i. locations_over (λ m. past_by_steps rule trace s other r n (λ j less. h j (omega arith)) m i) (from_step rule (step_at other (r + n)) l)
 
 born_by_steps : (policy : Policy) (trace : List StepSeen) (s : ℕ) (other : List StepSeen) (r n : ℕ) → HaveSameSteps trace s other r n → (l : Loc)
     → born policy trace s n l ≡ born policy other r n l
@@ -58,11 +51,8 @@ origins_by_steps : (policy : Policy) (trace other : List StepSeen) (t : ℕ) →
     → origins policy trace t l ≡ origins policy other t l
 origins_by_steps policy trace other zero h l = refl
 origins_by_steps policy trace other (suc t) h l =
-    ap (λ (o : Option StepSeen). after_step policy o (origins policy trace t) l) (h t (omega arith))
-    ∙ by (origins_by_steps policy trace other t (λ i less. h i (omega arith))) (step_at other t) where
-      by : ((m : Loc) → origins policy trace t m ≡ origins policy other t m) → (o : Option StepSeen) → after_step policy o (origins policy trace t) l ≡ after_step policy o (origins policy other t) l
-      by ih None = ih l
-      by ih (Some step) = ap (union source_cmp (fresh_step policy (Some step) l)) (union_over_alike _ _ ih (from_step policy.rule (Some step) l))
+    let before : origins policy trace t ≡ origins policy other t = λ i m. origins_by_steps policy trace other t (λ j less. h j (omega arith)) m i in
+    ap₂ (λ (o : Option StepSeen) (f : Loc → List SourceByte). after_step policy o f l) (h t (omega arith)) before
 
 pub pieces_compose : PiecesCompose
 pieces_compose policy xs ys n l =

@@ -52,51 +52,32 @@ the_rows = refl
 
 -- ---- stretches
 
--- what the last two steps write came from the register, and they read nothing
-past_of_the_end : past Copy run 2 2 (Mem 0x200) ≡ Reg 5 0 ∷ []
-past_of_the_end = refl
-
--- the register's content in the middle was read by the first two steps
-born_in_the_middle : born (record { rule = Copy; introduces = λ b. true }) run 0 2 (Reg 5 0) ≡ first_byte ∷ []
-born_in_the_middle = refl
+-- what the last two steps write came from the register, and they read nothing; its content in the middle was read by the first two
+stretches : (past Copy run 2 2 (Mem 0x200) ≡ Reg 5 0 ∷ []) × (born (record { rule = Copy; introduces = λ b. true }) run 0 2 (Reg 5 0) ≡ first_byte ∷ [])
+stretches = (refl, refl)
 
 -- ---- in two
 
 -- the register is asked in the middle, and the point there is not: it belongs to the epoch that ends there
-asked_in_the_middle : crossing_at asking run 2 (4 ∷ []) ≡ Reg 5 0 ∷ []
-asked_in_the_middle = refl
+asked_in_the_middle : (crossing_at asking run 2 (4 ∷ []) ≡ Reg 5 0 ∷ []) × (needed asking run 2 2 ≡ Reg 5 0 ∷ [])
+asked_in_the_middle = (refl, refl)
 
-needed_in_the_middle : needed asking run 2 2 ≡ Reg 5 0 ∷ []
-needed_in_the_middle = refl
-
-rows_of_the_first : rows_of (summary_of asking run 0 2) (λ l. []) ≡ early_rows
-rows_of_the_first = refl
-
-in_two : joined [] [] (summaries_of asking run 0 (2 ∷ 4 ∷ [])) ≡ all_rows
-in_two = refl
+in_two : (rows_of (summary_of asking run 0 2) (λ l. []) ≡ early_rows) × (joined [] [] (summaries_of asking run 0 (2 ∷ 4 ∷ [])) ≡ all_rows)
+in_two = (refl, refl)
 
 -- ---- in four
 
 -- before the load its byte is asked for the register, and before it the byte of the point in the middle for itself
-asked_before_the_load : crossing_at asking run 1 (2 ∷ 3 ∷ 4 ∷ []) ≡ Mem 0x101 ∷ Mem 0x100 ∷ []
-asked_before_the_load = refl
+asked_before_the_load : (crossing_at asking run 1 (2 ∷ 3 ∷ 4 ∷ []) ≡ Mem 0x101 ∷ Mem 0x100 ∷ []) × (needed asking run 1 3 ≡ Mem 0x100 ∷ Mem 0x101 ∷ [])
+asked_before_the_load = (refl, refl)
 
-needed_before_the_load : needed asking run 1 3 ≡ Mem 0x100 ∷ Mem 0x101 ∷ []
-needed_before_the_load = refl
-
-asked_before_the_write : crossing_at asking run 3 (4 ∷ []) ≡ Mem 0x200 ∷ []
-asked_before_the_write = refl
-
-in_four : joined [] [] (summaries_of asking run 0 (1 ∷ 2 ∷ 3 ∷ 4 ∷ [])) ≡ all_rows
-in_four = refl
+in_four : (crossing_at asking run 3 (4 ∷ []) ≡ Mem 0x200 ∷ []) × (joined [] [] (summaries_of asking run 0 (1 ∷ 2 ∷ 3 ∷ 4 ∷ [])) ≡ all_rows)
+in_four = (refl, refl)
 
 -- ---- without a cut, and without a step
 
-in_one : joined [] [] (summaries_of asking run 0 (4 ∷ [])) ≡ all_rows
-in_one = refl
-
-no_step : joined [] [] (summaries_of asking [] 0 (0 ∷ [])) ≡ record { sink = At (record { time = 0; loc = Mem 0x100 }); sources = [] } ∷ []
-no_step = refl
+in_one : (joined [] [] (summaries_of asking run 0 (4 ∷ [])) ≡ all_rows) × (joined [] [] (summaries_of asking [] 0 (0 ∷ [])) ≡ record { sink = At (record { time = 0; loc = Mem 0x100 }); sources = [] } ∷ [])
+in_one = (refl, refl)
 
 -- ---- four bytes are copied: read in step 5, written in step 8. The other steps move nothing
 
@@ -118,11 +99,8 @@ abbrev copied : ℕ → Row
 copied i = record { sink = Out (record { channel = 1; offset = i }); sources = record { channel = 0; offset = i } ∷ [] }
 
 -- after the read the four bytes of memory are asked, before it nothing is
-asked_after_the_read : crossing_at every_output copy 6 (9 ∷ []) ≡ Mem 0x1000 ∷ Mem 0x1001 ∷ Mem 0x1002 ∷ Mem 0x1003 ∷ []
-asked_after_the_read = refl
-
-asked_before_the_read : crossing_at every_output copy 5 (9 ∷ []) ≡ []
-asked_before_the_read = refl
+asked_on_both_sides : (crossing_at every_output copy 6 (9 ∷ []) ≡ Mem 0x1000 ∷ Mem 0x1001 ∷ Mem 0x1002 ∷ Mem 0x1003 ∷ []) × (crossing_at every_output copy 5 (9 ∷ []) ≡ [])
+asked_on_both_sides = (refl, refl)
 
 copied_bytes : joined [] [] (summaries_of every_output copy 0 (6 ∷ 9 ∷ [])) ≡ copied 0 ∷ copied 1 ∷ copied 2 ∷ copied 3 ∷ []
 copied_bytes = refl

@@ -1,9 +1,11 @@
 -- The texts of a log are lists of bytes.
 use Rattle.std.proofs.Common.{arith, refl, sym, ◌≡◌, ap, subst, ℕ, ◌<◌, List, [], ◌∷◌, ◌++◌, length, map, Bool, true, false, nat_lt, Ok, Err}
+use Rattle.lists.proofs.Lists.{all-append}
+use Rattle.lists.proofs.Numbers.{all-below}
 use Rattle.std.specs.Prelude.{if◌then◌else◌, ℤ}
 use Rattle.std.specs.List.{AllByRecursion, list_all, flat_map, range_with_len}
 use Rattle.std.specs.Int.{cast_unsigned, w32}
-use Rattle.std.proofs.lemmas.Bool.{lt-ltb, ltb-true, and_parts}
+use Rattle.std.proofs.lemmas.Bool.{lt-ltb}
 use Rattle.log_model.specs.declared.Version.{Version}
 use Rattle.log_model.specs.declared.Version.TheVariants.{One, Two}
 use Rattle.log_model.specs.declared.CallRecord.{CallRecord}
@@ -24,26 +26,19 @@ test-true : (bytes : List ℕ) → AreBytes bytes → list_all (λ n. nat_lt n 2
 test-true [] h = refl
 test-true (b ∷ bytes) h = rw (lt-ltb b 256 h.0, test-true bytes h.1)
 
-true-test : (bytes : List ℕ) → list_all (λ n. nat_lt n 256) bytes ≡ true → AreBytes bytes
-true-test [] h = tt
-true-test (b ∷ bytes) h =
-    let p = and_parts (nat_lt b 256) (list_all (λ n. nat_lt n 256) bytes) h in
-    (ltb-true b 256 p.0, true-test bytes p.1)
-
 pub if_bytes-are : (bytes : List ℕ) → AreBytes bytes → if_bytes bytes ≡ Ok bytes
 if_bytes-are bytes h = ap (λ (b : Bool). if b then Ok bytes else Err refusal.ReadFault) (test-true bytes h)
 
 pub if_bytes-is_ok : (bytes other : List ℕ) → if_bytes bytes ≡ Ok other → AreBytes other × (bytes ≡ other)
 if_bytes-is_ok bytes other h = by (list_all (λ n. nat_lt n 256) bytes) refl h where
   by : (b : Bool) → list_all (λ n. nat_lt n 256) bytes ≡ b → (if b then Ok bytes else Err refusal.ReadFault) ≡ Ok other → AreBytes other × (bytes ≡ other)
-  by true e r = let same : bytes ≡ other = cc in (subst AreBytes same (true-test bytes e), same)
+  by true e r = let same : bytes ≡ other = cc in (subst AreBytes same (all-below 256 bytes e), same)
   by false e r = cc
 
 -- ---- the text of a log
 
 append-bytes : (xs ys : List ℕ) → AreBytes xs → AreBytes ys → AreBytes (xs ++ ys)
-append-bytes [] ys h k = k
-append-bytes (x ∷ xs) ys h k = (h.0, append-bytes xs ys h.1 k)
+append-bytes = all-append (λ b. b < 256)
 
 word32-bytes : (n : ℕ) → AreBytes (word32 n)
 word32-bytes n = (omega arith, (omega arith, (omega arith, (omega arith, tt))))
@@ -87,8 +82,8 @@ end-bytes v (Trap at kind pc) = (omega arith, append-bytes (step_text v at ++ wo
 end-bytes v (Limit at) = (omega arith, step-bytes v at)
 
 magic-bytes : (v : Version) → AreBytes (magic v)
-magic-bytes One = (omega arith, (omega arith, (omega arith, (omega arith, (omega arith, (omega arith, (omega arith, (omega arith, tt))))))))
-magic-bytes Two = (omega arith, (omega arith, (omega arith, (omega arith, (omega arith, (omega arith, (omega arith, (omega arith, tt))))))))
+magic-bytes One = all-below 256 (magic One) refl
+magic-bytes Two = all-below 256 (magic Two) refl
 
 header-bytes : (v : Version) (log : Log) → IsLog log → AreBytes (header_text v log)
 header-bytes v log h =

@@ -1,5 +1,5 @@
 -- Worked examples of what three files come to, computed by the checker.
-use Rattle.std.proofs.Common.{◌≡◌, ℕ, List, [], ◌∷◌, refl, None, Ok, Err}
+use Rattle.std.proofs.Common.{◌≡◌, ℕ, List, [], ◌∷◌, refl, Option, None, Result, Ok, Err}
 use Rattle.std.specs.Prelude.{◌++◌, Some, codes, pos, if◌then◌else◌}
 use Rattle.std.specs.Fmt.{digits}
 use Rattle.std.specs.Str.{bytes_eq}
@@ -15,6 +15,7 @@ use Rattle.report_model.specs.Query.{Query}
 use Rattle.elf_model.specs.declared.ImageKind.TheVariants as image
 use Rattle.replay_model.specs.declared.Field.TheVariants as field
 use Rattle.sha2.specs.Sha256.{sha256, digest_bytes, hash_after, compress, rounds, first_words, schedule}
+use Rattle.jet_refusal.specs.declared.refusal.Refusal.{Refusal}
 use Rattle.jet_refusal.specs.declared.refusal.Refusal.TheVariants as refusal
 use Rattle.jet_model.specs.Outcomes.{and_then}
 use Rattle.jet_model.specs.Contents.{Contents, Names, program_in}
@@ -43,38 +44,27 @@ reported q = over_trace (report_of q)
 abbrev all_bytes : List ℕ
 all_bytes = of_lines ("rule copy" ∷ "source all" ∷ "sink all" ∷ [])
 
-a_report : query_answer reported None (three_files copy_four (log_text One copy_four_log) all_bytes) names ≡ Ok (of_lines ("1:0 0:0" ∷ "1:1 0:1" ∷ "1:2 0:2" ∷ "1:3 0:3" ∷ "end 4" ∷ []))
+abbrev Reports : Option ℕ → List ℕ → List ℕ → List ℕ → Result (List ℕ) Refusal → Type 0
+Reports told program log query answer = query_answer reported told (three_files program log query) names ≡ answer
+
+abbrev another_byte : Log
+another_byte = log_with copy_four 1 1 (a_read 5 4 abcd ∷ a_write 8 (0x41 ∷ 0x42 ∷ 0x58 ∷ 0x44 ∷ []) ∷ []) (Exit 11 0)
+
+answers :
+    Reports None copy_four (log_text One copy_four_log) all_bytes (Ok (of_lines ("1:0 0:0" ∷ "1:1 0:1" ∷ "1:2 0:2" ∷ "1:3 0:3" ∷ "end 4" ∷ [])))
+    -- the program is refused before the log
+    × Reports None (codes "ELF") [] [] (Err (refusal.Image image.Short))
+    × Reports None copy_four all_bytes [] (Err (refusal.Log log.Magic 0))
+    -- the query is refused before the log is compared with the program
+    × Reports None copy_four (log_text One add_words_log) (codes "rule copy x") (Err (refusal.Query 1 query.Count))
+    × Reports None copy_four (log_text One add_words_log) all_bytes (Err (refusal.Program (sha256 add_words) (sha256 copy_four)))
+    × Reports None copy_four (log_text One another_byte) all_bytes (Err (refusal.Diverged (record { step = 8; field = field.Byte 2; kept = pos 88; seen = pos 67 })))
 unfolding digits log_of channels_of body_of sha256 digest_bytes hash_after compress rounds first_words schedule
-a_report = refl
+answers = (refl, refl, refl, refl, refl, refl)
 
-no_file : query_answer reported None (λ name. None) names ≡ Err refusal.ReadFault
-no_file = refl
-
--- the program is refused before the log
-no_image : query_answer reported None (three_files (codes "ELF") [] []) names ≡ Err (refusal.Image image.Short)
-no_image = refl
-
-no_log : query_answer reported None (three_files copy_four all_bytes []) names ≡ Err (refusal.Log log.Magic 0)
-unfolding log_of
-no_log = refl
-
--- the query is refused before the log is compared with the program
-no_query : query_answer reported None (three_files copy_four (log_text One add_words_log) (codes "rule copy x")) names ≡ Err (refusal.Query 1 query.Count)
-unfolding log_of channels_of body_of sha256 digest_bytes hash_after compress rounds first_words schedule
-no_query = refl
-
-another_program : query_answer reported None (three_files copy_four (log_text One add_words_log) all_bytes) names ≡ Err (refusal.Program (sha256 add_words) (sha256 copy_four))
-unfolding log_of channels_of body_of sha256 digest_bytes hash_after compress rounds first_words schedule
-another_program = refl
-
-another_byte : query_answer reported None (three_files copy_four (log_text One (log_with copy_four 1 1 (a_read 5 4 abcd ∷ a_write 8 (0x41 ∷ 0x42 ∷ 0x58 ∷ 0x44 ∷ []) ∷ []) (Exit 11 0))) all_bytes) names
-    ≡ Err (refusal.Diverged (record { step = 8; field = field.Byte 2; kept = pos 88; seen = pos 67 }))
-unfolding log_of channels_of body_of sha256 digest_bytes hash_after compress rounds first_words schedule
-another_byte = refl
-
--- a window of no page holds no image
-no_window : and_then (program_in copy_four) (λ program. start_in program.image 0) ≡ Err (refusal.Window 0)
-no_window = refl
+-- there are no files; and a window of no page holds no image
+nothing_there : (query_answer reported None (λ name. None) names ≡ Err refusal.ReadFault) × (and_then (program_in copy_four) (λ program. start_in program.image 0) ≡ Err (refusal.Window 0))
+nothing_there = (refl, refl)
 
 -- ---- the limit of epochs
 
@@ -82,35 +72,20 @@ no_window = refl
 abbrev of_steps : ℕ → Log
 of_steps n = record copy_four_log { end = Limit n }
 
-few_epochs : epochs_check 1 (of_steps 4096) ≡ Ok tt
-few_epochs = refl
+-- the last epoch may be shorter than the others, and a run of no step is one epoch
+few_epochs : (epochs_check 1 (of_steps 4096) ≡ Ok tt) × (epochs_check 1048576 (of_steps 4294967296) ≡ Ok tt) × (epochs_check 1 (of_steps 0) ≡ Ok tt)
+few_epochs = (refl, refl, refl)
 
-many_epochs : epochs_check 1 (of_steps 4097) ≡ Err (refusal.TooManyEpochs 4097)
-many_epochs = refl
-
--- the last epoch may be shorter than the others
-few_long_epochs : epochs_check 1048576 (of_steps 4294967296) ≡ Ok tt
-few_long_epochs = refl
-
-many_long_epochs : epochs_check 1048576 (of_steps 4294967297) ≡ Err (refusal.TooManyEpochs 4097)
-many_long_epochs = refl
-
--- a run of no step is one epoch
-no_step : epochs_check 1 (of_steps 0) ≡ Ok tt
-no_step = refl
+many_epochs : (epochs_check 1 (of_steps 4097) ≡ Err (refusal.TooManyEpochs 4097)) × (epochs_check 1048576 (of_steps 4294967297) ≡ Err (refusal.TooManyEpochs 4097))
+many_epochs = (refl, refl)
 
 -- ---- the length of epochs
 
-told_length : epoch_length (Some 7) 4 2000000 ≡ 7
-told_length = refl
-
--- one worker has one epoch
-alone : (epoch_length None 1 2000000 ≡ 2000000) × (epoch_count 2000000 (epoch_length None 1 2000000) ≡ 1)
-alone = (refl, refl)
-
--- four workers have one each of a long run, and fewer of a shorter one
-of_four : (epoch_length None 4 2000000 ≡ 500000) × (epoch_length None 4 1000000 ≡ 262144) × (epoch_count 600000 (epoch_length None 4 600000) ≡ 3)
-of_four = (refl, refl, refl)
+-- one that is told; one worker has one epoch; four have one each of a long run, and fewer of a shorter one
+lengths :
+    (epoch_length (Some 7) 4 2000000 ≡ 7) × (epoch_length None 1 2000000 ≡ 2000000) × (epoch_count 2000000 (epoch_length None 1 2000000) ≡ 1)
+    × (epoch_length None 4 2000000 ≡ 500000) × (epoch_length None 4 1000000 ≡ 262144) × (epoch_count 600000 (epoch_length None 4 600000) ≡ 3)
+lengths = (refl, refl, refl, refl, refl, refl)
 
 -- the last is shorter where the steps are no multiple
 rounded_up : (epoch_length None 4 2000001 ≡ 500001) × (cut_times 2000001 500001 ≡ 500001 ∷ 1000002 ∷ 1500003 ∷ 2000001 ∷ [])
@@ -132,18 +107,14 @@ wide_copy_four =
     2 ∷ 8 ∷ 0 ∷ 0 ∷ 0 ∷ 0 ∷ 0 ∷ 0 ∷ 0 ∷ 1 ∷ 0 ∷ 0 ∷ 0 ∷ 0 ∷ 1 ∷ 1 ∷ 0 ∷ 4 ∷ 0 ∷ 0 ∷ 0 ∷ 4 ∷ 0 ∷ 0 ∷ 0 ∷ 0x41 ∷ 0x42 ∷ 0x43 ∷ 0x44 ∷
     5 ∷ 11 ∷ 0 ∷ 0 ∷ 0 ∷ 0 ∷ 0 ∷ 0 ∷ 0 ∷ 0 ∷ 0 ∷ 0 ∷ 0 ∷ []
 
-a_conversion : convert_answer (three_files copy_four (log_text One copy_four_log) []) (codes "program") (codes "log") ≡ Ok wide_copy_four
-unfolding digits log_of channels_of body_of sha256 digest_bytes hash_after compress rounds first_words schedule
-a_conversion = refl
+abbrev converted : List ℕ → Result (List ℕ) Refusal
+converted log = convert_answer (three_files copy_four log []) (codes "program") (codes "log")
 
-converted_again : convert_answer (three_files copy_four wide_copy_four []) (codes "program") (codes "log") ≡ Ok wide_copy_four
+-- it is converted to these bytes, and they to themselves; the report is the same, and so it is with epochs of another length
+conversions : (converted (log_text One copy_four_log) ≡ Ok wide_copy_four) × (converted wide_copy_four ≡ Ok wide_copy_four)
+    × Reports (Some 5) copy_four wide_copy_four all_bytes (Ok (of_lines ("1:0 0:0" ∷ "1:1 0:1" ∷ "1:2 0:2" ∷ "1:3 0:3" ∷ "end 4" ∷ [])))
 unfolding digits log_of channels_of body_of sha256 digest_bytes hash_after compress rounds first_words schedule
-converted_again = refl
-
--- the report is the same, and so it is with epochs of another length
-a_wide_report : query_answer reported (Some 5) (three_files copy_four wide_copy_four all_bytes) names ≡ Ok (of_lines ("1:0 0:0" ∷ "1:1 0:1" ∷ "1:2 0:2" ∷ "1:3 0:3" ∷ "end 4" ∷ []))
-unfolding digits log_of channels_of body_of sha256 digest_bytes hash_after compress rounds first_words schedule
-a_wide_report = refl
+conversions = (refl, refl, refl)
 
 -- ---- several queries
 
@@ -153,14 +124,10 @@ two_queries one two name =
     if bytes_eq name (codes "one") then Some one else
     if bytes_eq name (codes "two") then Some two else three_files copy_four (log_text One copy_four_log) [] name
 
-abbrev both_names : List (List ℕ)
-both_names = codes "one" ∷ codes "two" ∷ []
-
-other_rules : queries_answer None (two_queries all_bytes (codes "rule compute")) (codes "program") (codes "log") both_names ≡ Err (refusal.Rules Copy 2 Compute)
-unfolding digits log_of channels_of body_of sha256 digest_bytes hash_after compress rounds first_words schedule
-other_rules = refl
+abbrev of_both : List ℕ → List ℕ → Result (List ℕ) Refusal
+of_both one two = queries_answer None (two_queries one two) (codes "program") (codes "log") (codes "one" ∷ codes "two" ∷ [])
 
 -- all are read before their rules are compared
-second_faulty : queries_answer None (two_queries (codes "rule compute") (codes "sink 16")) (codes "program") (codes "log") both_names ≡ Err (refusal.QueryOf 2 1 query.Channel)
+faulty_queries : (of_both all_bytes (codes "rule compute") ≡ Err (refusal.Rules Copy 2 Compute)) × (of_both (codes "rule compute") (codes "sink 16") ≡ Err (refusal.QueryOf 2 1 query.Channel))
 unfolding digits log_of channels_of body_of sha256 digest_bytes hash_after compress rounds first_words schedule
-second_faulty = refl
+faulty_queries = (refl, refl)

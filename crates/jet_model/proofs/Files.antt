@@ -70,15 +70,12 @@ pub record IsProgramAt (file : Contents) (name : List ℕ) (p : Program) : Type 
   pub there : file name ≡ Some p.bytes
   pub is_image : image p.bytes ≡ Ok p.image
 
-is_program : (file : Contents) (name bytes : List ℕ) (im : Image) (p : Program) → file name ≡ Some bytes → image bytes ≡ Ok im → record { bytes = bytes; image = im } ≡ p → IsProgramAt file name p
-is_program file name bytes im p e is_image same = subst (IsProgramAt file name) same (record { there = e; is_image = is_image })
-
 pub program_at-is_ok : (file : Contents) (name : List ℕ) (p : Program) → program_at file name ≡ Ok p → IsProgramAt file name p
 program_at-is_ok file name p h =
     let f = and_then-is_ok (file_at file name) program_in p h in
     let i = and_then-is_ok (or_refused refusal.Image (image f.0)) (program_next f.0) p f.2 in
-    is_program file name f.0 i.0 p (file_at-is_ok file name f.0 f.1) (or_refused-is_ok refusal.Image (image f.0) i.0 i.1)
-    (ok-one (program_next f.0 i.0) (record { bytes = f.0; image = i.0 }) p refl i.2)
+    subst (IsProgramAt file name) (ok-one (program_next f.0 i.0) (record { bytes = f.0; image = i.0 }) p refl i.2)
+    (record { there = file_at-is_ok file name f.0 f.1; is_image = or_refused-is_ok refusal.Image (image f.0) i.0 i.1 })
 
 -- ---- a log
 
@@ -158,18 +155,11 @@ pub record IsRunAt (file : Contents) (program_name log_name : List ℕ) (run : R
   pub program : program_at file program_name ≡ Ok run.program
   pub log : log_at file log_name ≡ Ok run.log
 
-abbrev run_next : Program → Log → Result Run Refusal
-run_next p log = Ok (record { program = p; log = log })
-
-is_run : (file : Contents) (program_name log_name : List ℕ) (p : Program) (log : Log) (run : Run) → program_at file program_name ≡ Ok p → log_at file log_name ≡ Ok log
-    → record { program = p; log = log } ≡ run → IsRunAt file program_name log_name run
-is_run file program_name log_name p log run there log_there same = subst (IsRunAt file program_name log_name) same (record { program = there; log = log_there })
-
 pub run_at-is_ok : (file : Contents) (program_name log_name : List ℕ) (run : Run) → run_at file program_name log_name ≡ Ok run → IsRunAt file program_name log_name run
 run_at-is_ok file program_name log_name run h =
     let p = and_then-is_ok (program_at file program_name) (λ x. and_then (log_at file log_name) (λ l. Ok (record { program = x; log = l }))) run h in
     let l = and_then-is_ok (log_at file log_name) (λ l. Ok (record { program = p.0; log = l })) run p.2 in
-    is_run file program_name log_name p.0 l.0 run p.1 l.1 (ok-one (run_next p.0 l.0) (record { program = p.0; log = l.0 }) run refl l.2)
+    subst (IsRunAt file program_name log_name) (ok-one _ (record { program = p.0; log = l.0 }) run refl l.2) (record { program = p.1; log = l.1 })
 
 -- ---- several files
 

@@ -25,8 +25,8 @@ use Rattle.jet_refusal.specs.declared.refusal.Refusal.TheVariants as refusal
 use Rattle.jet_model.specs.Outcomes.{and_then}
 use Rattle.jet_model.specs.Contents.{Contents, Names, Program, Run, program_at, query_at, queries_at, run_at, inputs_at}
 use Rattle.jet_model.specs.Report.{over_trace, reports_of}
-use Rattle.jet_model.specs.Answer.{digest_check, start_in, unless_diverged, fitting_start, epochs_check, told_check, cut_answer, analysed_answer, query_answer, unless_other_rule, rules_check, queries_answer, text_answer, run_answer, limited_text, convert_answer, Limits, Source, source_at, setting_of, IsCaptured, IsCaptureAnswer, IsRecordAnswer}
-use Rattle.jet_model.specs.Headline.{IsRunOf, IsGivenByQuery, AreReportsOf, IsGivenBy, IsConversionOf, IsRecordingOf, IsShort, AreShort, AreAllShort, HasFewEpochs, HasFewIfTold}
+use Rattle.jet_model.specs.Answer.{digest_check, start_in, unless_diverged, fitting_start, told_check, cut_answer, analysed_answer, query_answer, unless_other_rule, rules_check, queries_answer, text_answer, run_answer, limited_text, convert_answer, Limits, Source, source_at, setting_of, IsCaptured, IsCaptureAnswer, IsRecordAnswer}
+use Rattle.jet_model.specs.Headline.{IsRunOf, IsGivenByQuery, AreReportsOf, IsGivenBy, IsConversionOf, IsRecordingOf, IsShort, AreShort, AreAllShort, HasFewIfTold}
 use Rattle.jet_model.proofs.AndThen.{ok-one, and_then-ok, and_then-is_ok, AndThen-ok, AndThen-is_ok, AndThen-one, ok_or-is_ok}
 use Rattle.replay_model.proofs.Received.{fitting_is_held}
 use Rattle.epoch_model.specs.ByLength.{epoch_count}
@@ -111,22 +111,19 @@ fitting_run file program_name log_name run start h k =
     }
 
 -- what the two files are read as
-record IsReadAs (file : Contents) (program_name log_name : List ℕ) (program : List ℕ) (log : Log) (start : State) : Type 0 where
-  run : Run
-  is_read : run_at file program_name log_name ≡ Ok run
-  same_log : run.log ≡ log
-  begins : fitting_start run.program run.log ≡ Ok start
+record IsReadAs (file : Contents) (program_name log_name : List ℕ) (log : Log) (start : State) : Type 0 where
+  program : Program
+  is_read : run_at file program_name log_name ≡ Ok (record { program = program; log = log })
+  begins : fitting_start program log ≡ Ok start
 
 read_run : (file : Contents) (program_name log_name program : List ℕ) (log : Log) → IsShort (file program_name) → IsShort (file log_name) → (r : IsRunOf file program_name log_name program log)
-    → IsReadAs file program_name log_name program log r.fits.start
+    → IsReadAs file program_name log_name log r.fits.start
 read_run file program_name log_name program log short short_log r =
     let b = begins_in_image program log r.fits in
-    let p : Program = record { bytes = program; image = b.im } in
     record {
-      run = record { program = p; log = log };
-      is_read = run_at-there file program_name log_name p log
+      program = record { bytes = program; image = b.im };
+      is_read = run_at-there file program_name log_name (record { bytes = program; image = b.im }) log
           (program_at-there file program_name program b.im r.program_file short b.is_image) (log_at-there file log_name r.bytes log r.log_file short_log r.is_log r.is_text);
-      same_log = refl;
       begins = fitting_start-fits program log r.fits b.im b.begins;
     }
 
@@ -136,13 +133,10 @@ abbrev Text : Type 0
 Text = State → Log → List ℕ
 
 -- the run has few epochs
-epochs-few : (epoch : ℕ) (log : Log) → HasFewEpochs epoch log → epochs_check epoch log ≡ Ok tt
-epochs-few epoch log few =
-    ap (λ (b : Bool). if b then Err (refusal.TooManyEpochs (epoch_count (steps log) epoch)) else Ok tt) (le-ltb 4096 (epoch_count (steps log) epoch) few)
-
 told-few : (told : Option ℕ) (log : Log) → HasFewIfTold told log → told_check told log ≡ Ok tt
 told-few None log few = refl
-told-few (Some epoch) log few = epochs-few epoch log few
+told-few (Some epoch) log few =
+    ap (λ (b : Bool). if b then Err (refusal.TooManyEpochs (epoch_count (steps log) epoch)) else Ok tt) (le-ltb 4096 (epoch_count (steps log) epoch) few)
 
 -- the text is made where the log fits and its run has few epochs
 analysed : (told : Option ℕ) (run : Run) (start : State) (given : Text) → fitting_start run.program run.log ≡ Ok start → HasFewIfTold told run.log
@@ -162,10 +156,6 @@ analysed-is_ok told run given text h =
     let s = and_then-is_ok (fitting_start run.program run.log) (λ start. cut_answer told start run.log given) text h in
     let few = and_then-is_ok (told_check told run.log) (λ few. Ok (given s.0 run.log)) text s.2 in
     record { start = s.0; begins = s.1; gives = sym (ok_same _ _ few.2) }
-
--- the log that was read is the same
-on_log : (given : Text) (start : State) (log other : Log) (text : List ℕ) → log ≡ other → text ≡ given start other → ok_text (given start log) ≡ ok_text text
-on_log given start log other text same gives = ap (λ (l : Log). ok_text (given start l)) same ∙ ap ok_text (sym gives)
 
 -- ---- a query
 
@@ -192,20 +182,16 @@ pub given-is_answer : (given : Query → Text) (told : Option ℕ) (file : Conte
     → query_answer given told file names ≡ Ok text
 given-is_answer given told file names text short g few =
     let r = read_run file names.program names.log g.program g.log short.program short.log g.run in
-    let start = g.run.fits.start in
-    and_then-ok (run_at file names.program names.log) (λ x. and_then (query_at file names.query) (λ q. analysed_answer told x (given q))) r.run r.is_read
-    ∙ and_then-ok (query_at file names.query) (λ q. analysed_answer told r.run (given q)) g.the_query (query_at-there file names.query g.query_text g.the_query g.query_file short.query g.is_query)
-    ∙ analysed told r.run start (given g.the_query) r.begins (subst (HasFewIfTold told) (sym r.same_log) few)
-    ∙ on_log (given g.the_query) start r.run.log g.log text r.same_log g.gives
+    let run : Run = record { program = r.program; log = g.log } in
+    and_then-ok (run_at file names.program names.log) (λ x. and_then (query_at file names.query) (λ q. analysed_answer told x (given q))) run r.is_read
+    ∙ and_then-ok (query_at file names.query) (λ q. analysed_answer told run (given q)) g.the_query (query_at-there file names.query g.query_text g.the_query g.query_file short.query g.is_query)
+    ∙ analysed told run g.run.fits.start (given g.the_query) r.begins few ∙ ap ok_text (sym g.gives)
 
 -- ---- several queries
 
 rules-is_ok : (o : Option (Rule × ℕ × Rule)) (same : Unit {0}) → unless_other_rule o ≡ Ok same → o ≡ None
 rules-is_ok None same h = refl
 rules-is_ok (Some x) same h = cc
-
-rules-one : (qs : List Query) → first_other_rule qs ≡ None → rules_check qs ≡ Ok tt
-rules-one qs e = ap unless_other_rule e
 
 pub reports-are_given : (told : Option ℕ) (file : Contents) (program log : List ℕ) (names : List (List ℕ)) (text : List ℕ) → queries_answer told file program log names ≡ Ok text → AreReportsOf file program log names text
 reports-are_given told file program log names text h =
@@ -232,14 +218,13 @@ pub given-are_reports : (told : Option ℕ) (file : Contents) (program log : Lis
     → (g : AreReportsOf file program log names text) → HasFewIfTold told g.log → queries_answer told file program log names ≡ Ok text
 given-are_reports told file program log names text short short_log all g few =
     let r = read_run file program log g.program g.log short short_log g.run in
-    let start = g.run.fits.start in
+    let run : Run = record { program = r.program; log = g.log } in
     let qs = g.the_queries in
-    and_then-ok (run_at file program log) (λ x. and_then (queries_at file names) (λ qs. and_then (rules_check qs) (λ same. analysed_answer told x (over_trace (reports_of qs))))) r.run r.is_read
-    ∙ and_then-ok (queries_at file names) (λ qs. and_then (rules_check qs) (λ same. analysed_answer told r.run (over_trace (reports_of qs)))) qs
+    and_then-ok (run_at file program log) (λ x. and_then (queries_at file names) (λ qs. and_then (rules_check qs) (λ same. analysed_answer told x (over_trace (reports_of qs))))) run r.is_read
+    ∙ and_then-ok (queries_at file names) (λ qs. and_then (rules_check qs) (λ same. analysed_answer told run (over_trace (reports_of qs)))) qs
     (queries_at-there file names g.query_texts qs (record { there = g.query_files; are_queries = g.are_queries }) all)
-    ∙ and_then-ok (rules_check qs) (λ same. analysed_answer told r.run (over_trace (reports_of qs))) tt (rules-one qs g.one_rule)
-    ∙ analysed told r.run start (over_trace (reports_of qs)) r.begins (subst (HasFewIfTold told) (sym r.same_log) few)
-    ∙ on_log (over_trace (reports_of qs)) start r.run.log g.log text r.same_log g.gives
+    ∙ and_then-ok (rules_check qs) (λ same. analysed_answer told run (over_trace (reports_of qs))) tt (ap unless_other_rule g.one_rule)
+    ∙ analysed told run g.run.fits.start (over_trace (reports_of qs)) r.begins few ∙ ap ok_text (sym g.gives)
 
 -- ---- a run without a query
 
@@ -260,9 +245,8 @@ pub given-is_run_answer : (file : Contents) (program log : List ℕ) (given : Te
     → run_answer file program log given ≡ Ok text
 given-is_run_answer file program log given text short short_log g =
     let r = read_run file program log g.program g.log short short_log g.run in
-    and_then-ok (run_at file program log) (λ x. text_answer x given) r.run r.is_read
-    ∙ and_then-ok (fitting_start r.run.program r.run.log) (λ start. Ok (given start r.run.log)) g.run.fits.start r.begins
-    ∙ on_log given g.run.fits.start r.run.log g.log text r.same_log g.gives
+    and_then-ok (run_at file program log) (λ x. text_answer x given) _ r.is_read
+    ∙ and_then-ok (fitting_start r.program g.log) (λ start. Ok (given start g.log)) g.run.fits.start r.begins ∙ ap ok_text (sym g.gives)
 
 -- ---- a log that is written
 
@@ -306,9 +290,8 @@ pub given-is_convert : (file : Contents) (program log text : List ℕ) → IsSho
     → convert_answer file program log ≡ Ok text
 given-is_convert file program log text short short_log fits g =
     let r = read_run file program log g.program g.log short short_log g.run in
-    and_then-ok (run_at file program log) (λ run. and_then (fitting_start run.program run.log) (λ start. limited_text run.log)) r.run r.is_read
-    ∙ and_then-ok (fitting_start r.run.program r.run.log) (λ start. limited_text r.run.log) g.run.fits.start r.begins
-    ∙ ap limited_text r.same_log
+    and_then-ok (run_at file program log) (λ run. and_then (fitting_start run.program run.log) (λ start. limited_text run.log)) _ r.is_read
+    ∙ and_then-ok (fitting_start r.program g.log) (λ start. limited_text g.log) g.run.fits.start r.begins
     ∙ sym (limited-short g.log text fits g.gives)
 
 -- ---- recordings
@@ -316,17 +299,11 @@ given-is_convert file program log text short short_log fits g =
 abbrev source_next : Program → List (List ℕ) → Result Source Refusal
 source_next p inputs = Ok (record { program = p; inputs = inputs })
 
-record IsSourceAt (file : Contents) (program : List ℕ) (inputs : List (List ℕ)) (source : Source) : Type 0 where
-  the_program : program_at file program ≡ Ok source.program
-  the_inputs : inputs_at file inputs ≡ Ok source.inputs
-
-source_at-is_ok : (file : Contents) (program : List ℕ) (inputs : List (List ℕ)) (source : Source) → source_at file program inputs ≡ Ok source → IsSourceAt file program inputs source
+pub source_at-is_ok : (file : Contents) (program : List ℕ) (inputs : List (List ℕ)) (source : Source) → source_at file program inputs ≡ Ok source → (program_at file program ≡ Ok source.program) × (inputs_at file inputs ≡ Ok source.inputs)
 source_at-is_ok file program inputs source h =
     let p = and_then-is_ok (program_at file program) (λ x. and_then (inputs_at file inputs) (λ contents. source_next x contents)) source h in
     let i = and_then-is_ok (inputs_at file inputs) (λ contents. source_next p.0 contents) source p.2 in
-    let whole : Source = record { program = p.0; inputs = i.0 } in
-    let found : IsSourceAt file program inputs whole = record { the_program = p.1; the_inputs = i.1 } in
-    subst (IsSourceAt file program inputs) (ok-one (source_next p.0 i.0) whole source refl i.2) found
+    subst (λ (s : Source). (program_at file program ≡ Ok s.program) × (inputs_at file inputs ≡ Ok s.inputs)) (ok-one (source_next p.0 i.0) (record { program = p.0; inputs = i.0 }) source refl i.2) (p.1, i.1)
 
 pub record_answer-is_recording : (file : Contents) (program : List ℕ) (inputs : List (List ℕ)) (limits : Limits) (answers text : List ℕ)
     → IsRecordAnswer file program inputs limits answers (Ok text) → IsRecordingOf file program inputs limits answers text
@@ -336,14 +313,14 @@ record_answer-is_recording file program inputs limits answers text h =
     let c = AndThen-is_ok (start_in source.program.image limits.pages) (λ start. IsCaptured (setting_of source limits) answers) text s.2 in
     let captured = c.2 in
     let found = source_at-is_ok file program inputs source s.1 in
-    let p = program_at-is_ok file program source.program found.the_program in
+    let p = program_at-is_ok file program source.program found.0 in
     let limited = limited-is_ok captured.log text captured.text in
     record {
       program = source.program.bytes;
       inputs = source.inputs;
       log = captured.log;
       program_file = p.there;
-      input_files = inputs_at-is_ok file inputs source.inputs found.the_inputs;
+      input_files = inputs_at-is_ok file inputs source.inputs found.1;
       recorded = captured.recorded;
       gives = limited.0;
       short = limited.1;
@@ -367,13 +344,9 @@ recording-is_record_answer file program inputs limits answers text short all r =
 pub recorded-is_read : (setting : Setting) (answers : List ℕ) (log : Log) → IsRecorded setting answers log → length (log_text Two log) ≤ 2 ^ 26 → log_of (log_text Two log) ≡ Ok log
 recorded-is_read setting answers log r short = fitting-is_read log setting.program (log_text Two log) r.is_log r.fits refl short
 
-one_captured : (source : Source) (limits : Limits) (answers : List ℕ) (a b : Result (List ℕ) Refusal) → IsCaptured (setting_of source limits) answers a → IsCaptured (setting_of source limits) answers b → a ≡ b
-one_captured source limits answers a b g h =
-    g.text ∙ ap limited_text (one_recording (setting_of source limits) answers g.log h.log g.recorded h.recorded) ∙ sym h.text
-
 pub one_record_answer : (file : Contents) (program : List ℕ) (inputs : List (List ℕ)) (limits : Limits) (answers : List ℕ) (a b : Result (List ℕ) Refusal)
     → IsRecordAnswer file program inputs limits answers a → IsRecordAnswer file program inputs limits answers b → a ≡ b
 one_record_answer file program inputs limits answers a b =
     AndThen-one (source_at file program inputs) (λ source. IsCaptureAnswer source limits answers) a b (λ source.
     AndThen-one (start_in source.program.image limits.pages) (λ start. IsCaptured (setting_of source limits) answers) a b (λ start.
-    one_captured source limits answers a b))
+    λ g h. g.text ∙ ap limited_text (one_recording (setting_of source limits) answers g.log h.log g.recorded h.recorded) ∙ sym h.text))

@@ -1,5 +1,5 @@
 -- How many epochs a run has where the words tell no length. Crates above cite these lemmas.
-use Rattle.std.proofs.Common.{◌≡◌, ◌∙◌, ap, refl, arith, ℕ, ◌≤◌, ◌<◌, ◌+◌, ◌*◌, max, ◌⊎◌, inl, inr, Option, Some, None, Ok, Err, Bool}
+use Rattle.std.proofs.Common.{◌≡◌, ap, refl, arith, ℕ, ◌≤◌, ◌<◌, ◌+◌, ◌*◌, inl, inr, Option, Some, None, Ok, Err, Bool}
 use Rattle.std.specs.Prelude.{if◌then◌else◌}
 use Rattle.std.specs.Int.{div_ceil}
 use Rattle.std.proofs.Math.Nat.{add-mul}
@@ -14,10 +14,10 @@ use Rattle.jet_model.specs.Answer.{epochs_check, told_check}
 
 -- what fits q times with less than one left over is no more than q
 at_most : (d q length : ℕ) → d * length < q * length + length → d ≤ q
-at_most d q length h = by (cases_lt q d) where
-  by : (q < d) ⊎ (d ≤ q) → d ≤ q
-  by (inl more) = absurd (omega (arith, h, mul-le (q + 1) length d length (omega (arith, more)) (omega arith), add-mul q 1 length))
-  by (inr few) = few
+at_most d q length h = elim (cases_lt q d) [
+  | inl more ↦ absurd (omega (arith, h, mul-le (q + 1) length d length (omega (arith, more)) (omega arith), add-mul q 1 length))
+  | inr few ↦ few
+]
 
 -- a run of no more than q times the length
 pub few_of_length : (n length q : ℕ) → 1 ≤ length → 1 ≤ q → n ≤ q * length → epoch_count n length ≤ q

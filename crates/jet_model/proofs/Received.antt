@@ -24,7 +24,7 @@ use Rattle.log_model.specs.Logs.{Log, IsLog}
 use Rattle.log_model.specs.Moved.{received}
 use Rattle.report_model.specs.Query.{Query, has_source}
 use Rattle.report_model.specs.Influence.{source_at, sources_of_call, sources_of_step, sources_of, chosen_sources}
-use Rattle.report_model.proofs.Members.{Some_in, some-Contains, Contains-some, some-each, some-left, some-right, map-some, some-map, some-range}
+use Rattle.report_model.proofs.Members.{some-append, Some_in, some-Contains, Contains-some, some-each, some-left, some-right, map-some, some-map, some-range}
 use Rattle.report_model.proofs.Turned.{in_trace}
 use Rattle.replay_model.specs.Run.{trace}
 use Rattle.replay_model.specs.Comparison.{divergence}
@@ -83,17 +83,9 @@ module _ (count : ℕ → ℕ) where
   from_offsets c o x a (suc n) (inl e) = let p = ap (λ (b : SourceByte). b.channel) e in let q = ap (λ (b : SourceByte). b.offset) e in (p, omega (arith, q))
   from_offsets c o x a (suc n) (inr h) = let r = from_offsets c o x (a + 1) n h in (r.0, omega (arith, r.1))
 
-  split-some : (P : SourceByte → Type 0) (xs ys : List SourceByte) → Some_in P (xs ++ ys) → Some_in P xs ⊎ Some_in P ys
-  split-some P [] ys h = inr h
-  split-some P (x ∷ xs) ys (inl p) = inl (inl p)
-  split-some P (x ∷ xs) ys (inr h) = by (split-some P xs ys h) where
-    by : Some_in P xs ⊎ Some_in P ys → (P x ⊎ Some_in P xs) ⊎ Some_in P ys
-    by (inl g) = inl (inr g)
-    by (inr g) = inr g
-
   from_blocks : (c o a n : ℕ) → Some_in (λ y. y ≡ source_on c o) (blocks a n) → (c < a + n) × (o < count c)
   from_blocks c o a zero h = absurd h
-  from_blocks c o a (suc n) h = by (split-some (λ y. y ≡ source_on c o) (block a) (blocks (a + 1) n) (subst (Some_in (λ y. y ≡ source_on c o)) (blocks-cons a n) h)) (from_blocks c o (a + 1) n) where
+  from_blocks c o a (suc n) h = by (some-append (λ y. y ≡ source_on c o) (block a) (blocks (a + 1) n) (subst (Some_in (λ y. y ≡ source_on c o)) (blocks-cons a n) h)) (from_blocks c o (a + 1) n) where
     by : Some_in (λ y. y ≡ source_on c o) (block a) ⊎ Some_in (λ y. y ≡ source_on c o) (blocks (a + 1) n) → (Some_in (λ y. y ≡ source_on c o) (blocks (a + 1) n) → (c < a + 1 + n) × (o < count c)) → (c < a + suc n) × (o < count c)
     by (inl g) rest =
         let r = from_offsets a o c 0 (count a) (map-some (λ y. y ≡ source_on c o) (source_on a) (range_with_len 0 (count a)) g) in
@@ -120,7 +112,7 @@ record IsReadAt (trace : List StepSeen) (b : SourceByte) (n : ℕ) : Type 0 wher
 -- a source byte of the trace is one of a step
 from_trace : (trace : List StepSeen) (b : SourceByte) → Some_in (λ c. c ≡ b) (sources_of trace) → (n : ℕ) × IsReadAt trace b n
 from_trace [] b h = absurd h
-from_trace (s ∷ ss) b h = by (split-some (λ c. 0) (λ c. c ≡ b) (sources_of_step s.call) (sources_of ss) (subst (Some_in (λ c. c ≡ b)) (flat_map-cons (λ (t : StepSeen). sources_of_step t.call) s ss) h)) (from_trace ss b) where
+from_trace (s ∷ ss) b h = by (some-append (λ c. c ≡ b) (sources_of_step s.call) (sources_of ss) (subst (Some_in (λ c. c ≡ b)) (flat_map-cons (λ (t : StepSeen). sources_of_step t.call) s ss) h)) (from_trace ss b) where
   by : Some_in (λ c. c ≡ b) (sources_of_step s.call) ⊎ Some_in (λ c. c ≡ b) (sources_of ss) → (Some_in (λ c. c ≡ b) (sources_of ss) → (n : ℕ) × IsReadAt ss b n) → (n : ℕ) × IsReadAt (s ∷ ss) b n
   by (inl g) rest = (0, record { step = s; is_step = refl; listed = g })
   by (inr g) rest = let r = rest g in (suc r.0, record { step = r.1.step; is_step = r.1.is_step; listed = r.1.listed })
@@ -187,10 +179,10 @@ module _ (start : State) (log : Log) (is_log : IsLog log) (agrees : divergence s
   count_of c = length (received c log.records)
 
   channel_below : (c o : ℕ) → o < count_of c → c < 16
-  channel_below c o h = by (cases_lt c 16) where
-    by : (c < 16) ⊎ (16 ≤ c) → c < 16
-    by (inl less) = less
-    by (inr more) = let none = ap length (none_received start log is_log agrees c (omega (arith, more, is_log.inputs))) in absurd (omega (arith, none, h))
+  channel_below c o h = elim (cases_lt c 16) [
+    | inl less ↦ less
+    | inr more ↦ absurd (omega (arith, ap length (none_received start log is_log agrees c (omega (arith, more, is_log.inputs))), h))
+  ]
 
   to_log : (b : SourceByte) → has source_cmp b (set_of source_cmp (sources_of steps_of)) ≡ true → has source_cmp b (received_sources log) ≡ true
   to_log b h =

@@ -1,5 +1,5 @@
 -- Each recording comes to an answer.
-use Rattle.std.proofs.Common.{◌≡◌, ◌∙◌, ap, sym, refl, subst, arith, ℕ, zero, suc, ◌+◌, ◌≤◌, ◌<◌, ◌^◌, List, [], ◌∷◌, Bool, true, false, nat_lt, length, Option, Some, Result, Ok, Err, ltb-false}
+use Rattle.std.proofs.Common.{◌≡◌, ◌∙◌, ap, sym, refl, subst, arith, ℕ, zero, suc, ◌+◌, ◌≤◌, ◌<◌, ◌^◌, List, [], ◌∷◌, Bool, true, false, nat_lt, length, Result, Ok, Err, ltb-false}
 use Rattle.std.specs.Prelude.{if◌then◌else◌, min, IsSome}
 use Rattle.std.specs.List.{AllByRecursion}
 use Rattle.std.specs.Option.{ok_or}
@@ -14,8 +14,9 @@ use Rattle.record_model.proofs.RecordedRuns.{a_recording}
 use Rattle.jet_refusal.specs.declared.refusal.Refusal.{Refusal}
 use Rattle.jet_refusal.specs.declared.refusal.Refusal.TheVariants as refusal
 use Rattle.jet_model.specs.Outcomes.{and_then, AndThen}
-use Rattle.jet_model.specs.Contents.{Contents, within_limit, file_at, program_at, each_in_order, inputs_at}
+use Rattle.jet_model.specs.Contents.{Contents, within_limit, file_at, each_in_order}
 use Rattle.jet_model.specs.Answer.{Limits, Source, HoldsBytes, AreInRange, RecordAnswer, IsCaptured, IsCaptureAnswer, setting_of, source_at, start_in, limited_text}
+use Rattle.jet_model.proofs.Headline.{source_at-is_ok}
 use Rattle.jet_model.proofs.AndThen.{and_then-is_ok, AndThen-ok, ok_or-is_ok}
 use Rattle.jet_model.proofs.Files.{IsProgramAt, file_at-is_ok, program_at-is_ok}
 
@@ -29,10 +30,7 @@ within_limit-short : (bytes other : List ℕ) → within_limit bytes ≡ Ok othe
 within_limit-short bytes other h = by (nat_lt (2 ^ 26) (length bytes)) refl h
   where
     by : (b : Bool) → nat_lt (2 ^ 26) (length bytes) ≡ b → (if b then Err refusal.TooLong else Ok bytes) ≡ Ok other → length other ≤ 2 ^ 26
-    by true e h = absurd (wrong h)
-      where
-        wrong : Err refusal.TooLong ≡ Ok other → ⊥
-        wrong h = cc
+    by true e h = cc
     by false e h = let same : bytes ≡ other = cc in subst (λ (x : List ℕ). length x ≤ 2 ^ 26) same (ltb-false (2 ^ 26) (length bytes) e)
 
 module _ (file : Contents) (are : HoldsBytes file) where
@@ -66,23 +64,18 @@ pieces_small (i ∷ is) piece (suc channel) h = pieces_small is piece channel h.
 
 -- ---- the recording
 
-some_start : (o : Option State) (s : State) → o ≡ Some s → IsSome o
-some_start o s e = subst IsSome (sym e) refl
-
 module _ (file : Contents) (program_name : List ℕ) (names : List (List ℕ)) (limits : Limits) (clock : ℕ → ℕ)
     (are : HoldsBytes file) (few : length names ≤ 16) (range : AreInRange limits) (small : (k : ℕ) → clock k < 2 ^ 64) where
   can_record : (source : Source) (start : State) → source_at file program_name names ≡ Ok source → start_in source.program.image limits.pages ≡ Ok start → CanRecord (setting_of source limits)
   can_record source start h e =
-      let p = and_then-is_ok (program_at file program_name) (λ program. and_then (inputs_at file names) (λ inputs. Ok (record { program = program; inputs = inputs }))) source h in
-      let i = and_then-is_ok (inputs_at file names) (λ inputs. Ok (record { program = p.0; inputs = inputs })) source p.2 in
-      let same : record { program = p.0; inputs = i.0 } ≡ source = let e : Ok (record { program = p.0; inputs = i.0 }) ≡ Ok source = i.2 in cc in
-      let program : IsProgramAt file program_name source.program = program_at-is_ok file program_name source.program (p.1 ∙ ap (λ (s : Source). Ok s.program) same) in
-      let inputs : AreInputs file are names source.inputs = are_inputs file are 1 names source.inputs (i.1 ∙ ap (λ (s : Source). Ok s.inputs) same) in
+      let found = source_at-is_ok file program_name names source h in
+      let program : IsProgramAt file program_name source.program = program_at-is_ok file program_name source.program found.0 in
+      let inputs : AreInputs file are names source.inputs = are_inputs file are 1 names source.inputs found.1 in
       let many = inputs.as_many in
       record {
         program = are program_name source.program.bytes program.there;
         pages = range.pages;
-        begins = some_start _ start (ap (λ (r : Result Image ImageKind). start_in_image r limits.pages) program.is_image ∙ ok_or-is_ok (start_of source.program.image limits.pages) (refusal.Window limits.pages) start e);
+        begins = subst IsSome (sym (ap (λ (r : Result Image ImageKind). start_in_image r limits.pages) program.is_image ∙ ok_or-is_ok (start_of source.program.image limits.pages) (refusal.Window limits.pages) start e)) refl;
         channels = omega arith;
         inputs = all_bytes source.inputs inputs.each;
         pieces = λ channel. pieces_small source.inputs limits.piece channel inputs.each;

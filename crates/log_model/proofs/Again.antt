@@ -18,9 +18,10 @@ use Rattle.log_model.specs.declared.RunEnd.TheVariants.{Exit, Trap, Limit}
 use Rattle.log_model.specs.declared.Item.{Item}
 use Rattle.log_model.specs.declared.Item.TheVariants.{Call, End}
 use Rattle.log_model.specs.Logs.{word32, word64, signed32, step_text, read_text, record_text, end_text, IsTransfer, IsRecord, IsEnd, IsRefusal, IsTrapKind}
-use Rattle.log_model.specs.Faults.{long_at, step_of, step_end, step_length, fields_of, moved, data_length, left_on, are_left, are_bytes_wrong, record_fault}
+use Rattle.log_model.specs.Faults.{long_at, tag_of, step_bound, fixed_length, is_result_wrong, step_of, step_end, step_length, fields_of, moved, data_length, left_on, are_left, are_bytes_wrong, record_fault}
 use Rattle.log_model.specs.Reading.{item_of, item_length, read_bytes}
 use Rattle.log_model.proofs.Faults.{record_fault-none}
+use Rattle.log_model.proofs.Headers.{regroup}
 use Rattle.log_model.proofs.Items.{item_text, item_at, IsForm, IsFront, IsItemOf}
 use Rattle.log_model.proofs.Results.{IsOutcome, word_of_below, word_of_moved, cast_again, read_is_right, write_is_right, kind_is_right}
 use Rattle.log_model.proofs.Words.{step_again, fields_again, length-step_text}
@@ -34,15 +35,14 @@ pub record IsAgain (v : Version) (left : List (List ℕ)) (item : Item) (after :
 
 -- bytes with this tag, this step number and these fields and what follows them
 record IsBegun (v : Version) (text : List ℕ) (t at : ℕ) (fields : List ℕ) : Type 0 where
+  tag : tag_of text ≡ t
   step : step_of v text ≡ at
   has : fields_of v text ≡ fields
   long : length text ≡ 1 + step_length v + length fields
 
-regroup : (a b c d after : List ℕ) → a ++ b ++ c ++ d ++ after ≡ a ++ (b ++ (c ++ (d ++ after)))
-regroup a b c d after = simp append_assoc
-
 begun : (v : Version) (t at : ℕ) (fields : List ℕ) → at < step_end v → IsBegun v (t ∷ (step_text v at ++ fields)) t at fields
 begun v t at fields h = record {
+  tag = refl;
   step = step_again v t at fields h;
   has = fields_again v t at fields;
   long = omega (arith, length-append (step_text v at) fields, length-step_text v at);
@@ -53,6 +53,11 @@ begun_with : (v : Version) (t at : ℕ) (fields after : List ℕ) → at < step_
 begun_with v t at fields after h =
     subst (λ (x : List ℕ). IsBegun v (t ∷ x) t at (fields ++ after)) (sym (append_assoc (step_text v at) fields after)) (begun v t at (fields ++ after) h)
 
+none_again : (v : Version) (least : ℕ) (left : List (List ℕ)) (text : List ℕ) (t at : ℕ) (fields : List ℕ) → IsBegun v text t at fields → 1 ≤ t → t ≤ 7 → least ≤ at → at < step_bound t
+    → is_result_wrong t fields ≡ false → are_bytes_wrong v t left fields ≡ false → fixed_length v t + data_length v t text ≤ length text → record_fault v least left text ≡ None
+none_again v least left text t at fields is low high order below outcome bytes whole =
+    record_fault-none v least left text t record { tag = is.tag; low = low; high = high; order = rw is.step order; below = rw is.step below; outcome = rw is.has outcome; bytes = rw is.has bytes; whole = whole }
+
 clock_again : (v : Version) (left : List (List ℕ)) (at value : ℕ) (after : List ℕ) → at < 2 ^ 40 → at < step_end v → value < 2 ^ 64 → IsAgain v left (Call (Clock at value)) after
 clock_again v left at value after p w q =
     let text = record_text v (Clock at value) ++ after in
@@ -62,16 +67,7 @@ clock_again v left at value after p w q =
     record {
       same = rw (is.step, is.has, b) refl;
       size = omega (arith, here.long);
-      none = λ least h. record_fault-none v least left text 3 record {
-        tag = refl;
-        low = omega arith;
-        high = omega arith;
-        order = rw is.step h;
-        below = rw is.step p;
-        outcome = refl;
-        bytes = refl;
-        whole = omega (arith, is.long);
-      };
+      none = λ least h. none_again v least left text 3 at _ is (omega arith) (omega arith) h p refl refl (omega (arith, is.long));
     }
 
 other_again : (v : Version) (left : List (List ℕ)) (at number : ℕ) (after : List ℕ) → at < 2 ^ 40 → at < step_end v → number < 2 ^ 32 → IsAgain v left (Call (Other at number)) after
@@ -83,16 +79,7 @@ other_again v left at number after p w q =
     record {
       same = rw (is.step, is.has, b) refl;
       size = omega (arith, here.long);
-      none = λ least h. record_fault-none v least left text 4 record {
-        tag = refl;
-        low = omega arith;
-        high = omega arith;
-        order = rw is.step h;
-        below = rw is.step p;
-        outcome = refl;
-        bytes = refl;
-        whole = omega (arith, is.long);
-      };
+      none = λ least h. none_again v least left text 4 at _ is (omega arith) (omega arith) h p refl refl (omega (arith, is.long));
     }
 
 small : (k : ℕ) → IsTrapKind k → k ≤ 7
@@ -109,16 +96,7 @@ end_again v left (Exit at code) after h w none =
     record {
       same = rw (is.step, is.has, b) refl;
       size = omega (arith, here.long);
-      none = λ least o. record_fault-none v least left text 5 record {
-        tag = refl;
-        low = omega arith;
-        high = omega arith;
-        order = rw is.step o;
-        below = rw is.step h.0;
-        outcome = refl;
-        bytes = rw none refl;
-        whole = omega (arith, is.long);
-      };
+      none = λ least o. none_again v least left text 5 at _ is (omega arith) (omega arith) o h.0 refl (rw none refl) (omega (arith, is.long));
     }
 end_again v left (Trap at kind pc) after h w none =
     let text = end_text v (Trap at kind pc) ++ after in
@@ -131,16 +109,7 @@ end_again v left (Trap at kind pc) after h w none =
     record {
       same = rw (is.step, is.has, b, d) refl;
       size = omega (arith, here.long);
-      none = λ least o. record_fault-none v least left text 6 record {
-        tag = refl;
-        low = omega arith;
-        high = omega arith;
-        order = rw is.step o;
-        below = rw is.step (omega (arith, h.0));
-        outcome = rw (is.has, b) (kind_is_right kind h.1);
-        bytes = rw none refl;
-        whole = omega (arith, is.long);
-      };
+      none = λ least o. none_again v least left text 6 at _ is (omega arith) (omega arith) o (omega (arith, h.0)) (rw b (kind_is_right kind h.1)) (rw none refl) (omega (arith, is.long));
     }
 end_again v left (Limit at) after h w none =
     let text = end_text v (Limit at) ++ after in
@@ -148,16 +117,7 @@ end_again v left (Limit at) after h w none =
     record {
       same = rw is.step refl;
       size = omega (arith, length-step_text v at);
-      none = λ least o. record_fault-none v least left text 7 record {
-        tag = refl;
-        low = omega arith;
-        high = omega arith;
-        order = rw is.step o;
-        below = rw is.step (omega (arith, h));
-        outcome = refl;
-        bytes = rw none refl;
-        whole = omega (arith, is.long);
-      };
+      none = λ least o. none_again v least left text 7 at _ is (omega arith) (omega arith) o (omega (arith, h)) refl (rw none refl) (omega (arith, is.long));
     }
 
 -- ---- reads and writes
@@ -246,16 +206,7 @@ read_again v left at a b c result bytes after r w front =
     record {
       same = rw (is.step, n.gives, is.has, h.first, h.second, h.third, h.outcome, cast_again result r.1.fits o) refl;
       size = omega (arith, n.follow, is.long, h.long, sum, whole);
-      none = λ least order. record_fault-none v least left text 1 record {
-        tag = refl;
-        low = omega arith;
-        high = omega arith;
-        order = rw is.step order;
-        below = rw is.step r.0;
-        outcome = rw (is.has, h.third, h.outcome, read_is_right c result r.1.fits r.2) refl;
-        bytes = rw is.has n.right;
-        whole = omega (arith, n.follow, is.long, h.long, sum);
-      };
+      none = λ least order. none_again v least left text 1 at _ is (omega arith) (omega arith) order r.0 (rw (h.third, h.outcome, read_is_right c result r.1.fits r.2) refl) n.right (omega (arith, n.follow, is.long, h.long, sum));
     }
 
 write_again : (v : Version) (left : List (List ℕ)) (at a b c : ℕ) (result : ℤ) (bytes after : List ℕ) → IsRecord (Write at (a ∷ b ∷ c ∷ []) result bytes) → at < step_end v
@@ -275,16 +226,7 @@ write_again v left at a b c result bytes after r w =
     record {
       same = rw (n, moved_bytes, is.step, is.has, h.first, h.second, h.third, h.outcome, cast_again result r.1.fits o, take_at bytes after (length bytes) refl) refl;
       size = omega (arith, n, is.long, h.long, sum, whole);
-      none = λ least order. record_fault-none v least left text 2 record {
-        tag = refl;
-        low = omega arith;
-        high = omega arith;
-        order = rw is.step order;
-        below = rw is.step r.0;
-        outcome = rw (is.has, h.third, h.outcome, write_is_right c result r.1.fits r.2) refl;
-        bytes = refl;
-        whole = omega (arith, n, is.long, h.long, sum);
-      };
+      none = λ least order. none_again v least left text 2 at _ is (omega arith) (omega arith) order r.0 (rw (h.third, h.outcome, write_is_right c result r.1.fits r.2) refl) refl (omega (arith, n, is.long, h.long, sum));
     }
 
 pub record_again : (v : Version) (left : List (List ℕ)) (r : CallRecord) (after : List ℕ) → IsRecord r → item_at (Call r) < step_end v → IsItemOf v left (Call r) → IsAgain v left (Call r) after

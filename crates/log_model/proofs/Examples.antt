@@ -2,6 +2,7 @@
 use Rattle.std.proofs.Common.{◌≡◌, ℕ, List, [], ◌∷◌, ◌++◌, take, Ok, Err, pos, negsuc, refl}
 use Rattle.log_model.specs.declared.CallRecord.TheVariants.{Read, Write, Clock, Other}
 use Rattle.log_model.specs.declared.RunEnd.TheVariants.{Exit, Trap, Limit}
+use Rattle.log_model.specs.declared.LogKind.{LogKind}
 use Rattle.log_model.specs.declared.LogKind.TheVariants as fault
 use Rattle.log_model.specs.Reading.{log_of, channels_of, body_of}
 
@@ -73,49 +74,23 @@ a_refused_write = refl
 
 -- ---- faults
 
-no_bytes : log_of [] ≡ Err (fault.Magic, 0)
-unfolding log_of channels_of body_of
-no_bytes = refl
+abbrev HasFault : List ℕ → LogKind → ℕ → Type 0
+HasFault bytes kind offset = log_of bytes ≡ Err (kind, offset)
 
-cut_off_header : log_of (take 47 (header 1 1)) ≡ Err (fault.Header, 8)
+faulty :
+    HasFault [] fault.Magic 0
+    × HasFault (take 47 (header 1 1)) fault.Header 8
+    × HasFault (header 0 1 ++ a_limit) fault.Header 40
+    × HasFault (header 1 17 ++ a_limit) fault.Header 44
+    × HasFault (header 1 1 ++ a_read 5) fault.Short 73
+    × HasFault (header 1 1 ++ take 24 (a_read 5)) fault.Short 48
+    × HasFault (header 1 1 ++ a_read 5 ++ 8 ∷ []) fault.Tag 73
+    × HasFault (header 1 1 ++ a_read 5 ++ a_write 5 3 ++ an_exit) fault.Order 73
+    × HasFault (header 1 1 ++ a_write 5 2 ++ an_exit) fault.Result 48
+    × HasFault (header 1 1 ++ a_trap 4) fault.Result 48
+    × HasFault (header 1 1 ++ a_limit ++ a_limit) fault.Trailing 53
 unfolding log_of channels_of body_of
-cut_off_header = refl
-
-no_pages : log_of (header 0 1 ++ a_limit) ≡ Err (fault.Header, 40)
-unfolding log_of channels_of body_of
-no_pages = refl
-
-many_inputs : log_of (header 1 17 ++ a_limit) ≡ Err (fault.Header, 44)
-unfolding log_of channels_of body_of
-many_inputs = refl
-
-no_end : log_of (header 1 1 ++ a_read 5) ≡ Err (fault.Short, 73)
-unfolding log_of channels_of body_of
-no_end = refl
-
-cut_off_data : log_of (header 1 1 ++ take 24 (a_read 5)) ≡ Err (fault.Short, 48)
-unfolding log_of channels_of body_of
-cut_off_data = refl
-
-no_such_tag : log_of (header 1 1 ++ a_read 5 ++ 8 ∷ []) ≡ Err (fault.Tag, 73)
-unfolding log_of channels_of body_of
-no_such_tag = refl
-
-equal_steps : log_of (header 1 1 ++ a_read 5 ++ a_write 5 3 ++ an_exit) ≡ Err (fault.Order, 73)
-unfolding log_of channels_of body_of
-equal_steps = refl
-
-a_short_write : log_of (header 1 1 ++ a_write 5 2 ++ an_exit) ≡ Err (fault.Result, 48)
-unfolding log_of channels_of body_of
-a_short_write = refl
-
-no_such_trap : log_of (header 1 1 ++ a_trap 4) ≡ Err (fault.Result, 48)
-unfolding log_of channels_of body_of
-no_such_trap = refl
-
-bytes_after_the_end : log_of (header 1 1 ++ a_limit ++ a_limit) ≡ Err (fault.Trailing, 53)
-unfolding log_of channels_of body_of
-bytes_after_the_end = refl
+faulty = (refl, refl, refl, refl, refl, refl, refl, refl, refl, refl, refl)
 
 -- ---- version 2
 
@@ -179,36 +154,16 @@ two_channels : log_of (header_2 2 2 ++ a_channel 5 ++ a_channel 2 ++ read_of 1 0
 unfolding log_of channels_of body_of
 two_channels = refl
 
-cut_off_length : log_of (take 50 worked) ≡ Err (fault.Header, 48)
+faulty_2 :
+    HasFault (take 50 worked) fault.Header 48
+    × HasFault (header_2 1 2 ++ a_channel 2 ++ take 6 (a_channel 3)) fault.Header 54
+    -- three bytes are left, and four are read
+    × HasFault (header_2 1 1 ++ a_channel 3 ++ read_of 5 0 4 ++ write_at_8 ++ exit_at_11) fault.Bytes 55
+    × HasFault (header_2 1 1 ++ a_channel 0 ++ read_of 5 1 1 ++ exit_at_11) fault.Bytes 52
+    -- the channel's fifth byte is never read
+    × HasFault (header_2 1 1 ++ a_channel 5 ++ read_of 5 0 4 ++ write_at_8 ++ exit_at_11) fault.Bytes 111
+    × HasFault (header_2 1 0 ++ clock_at_2_40 ++ limit_after_2_40 1) fault.Order 48
+    × HasFault (header_2 1 0 ++ clock_before_2_40 ++ limit_after_2_40 1) fault.Order 65
+    × HasFault (worked ++ 0 ∷ []) fault.Trailing 123
 unfolding log_of channels_of body_of
-cut_off_length = refl
-
-cut_off_channel : log_of (header_2 1 2 ++ a_channel 2 ++ take 6 (a_channel 3)) ≡ Err (fault.Header, 54)
-unfolding log_of channels_of body_of
-cut_off_channel = refl
-
--- three bytes are left, and four are read
-more_than_is_left : log_of (header_2 1 1 ++ a_channel 3 ++ read_of 5 0 4 ++ write_at_8 ++ exit_at_11) ≡ Err (fault.Bytes, 55)
-unfolding log_of channels_of body_of
-more_than_is_left = refl
-
-no_such_channel : log_of (header_2 1 1 ++ a_channel 0 ++ read_of 5 1 1 ++ exit_at_11) ≡ Err (fault.Bytes, 52)
-unfolding log_of channels_of body_of
-no_such_channel = refl
-
--- the channel's fifth byte is never read
-bytes_at_the_end : log_of (header_2 1 1 ++ a_channel 5 ++ read_of 5 0 4 ++ write_at_8 ++ exit_at_11) ≡ Err (fault.Bytes, 111)
-unfolding log_of channels_of body_of
-bytes_at_the_end = refl
-
-a_late_call : log_of (header_2 1 0 ++ clock_at_2_40 ++ limit_after_2_40 1) ≡ Err (fault.Order, 48)
-unfolding log_of channels_of body_of
-a_late_call = refl
-
-a_late_limit : log_of (header_2 1 0 ++ clock_before_2_40 ++ limit_after_2_40 1) ≡ Err (fault.Order, 65)
-unfolding log_of channels_of body_of
-a_late_limit = refl
-
-one_byte_more : log_of (worked ++ 0 ∷ []) ≡ Err (fault.Trailing, 123)
-unfolding log_of channels_of body_of
-one_byte_more = refl
+faulty_2 = (refl, refl, refl, refl, refl, refl, refl, refl)

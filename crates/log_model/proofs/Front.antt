@@ -1,7 +1,7 @@
 -- The record at the front, where it has no fault: the bytes are its text and what is after it.
-use Rattle.std.proofs.Common.{◌≡◌, ℕ, ◌+◌, ◌≤◌, ◌<◌, Bool, true, false, ◌||◌, leb, eqb, List, [], ◌∷◌, ◌++◌, length, get_or, take, drop, None, refl, sym, ap, subst, ◌∙◌, append_assoc, arith, inl, inr}
+use Rattle.std.proofs.Common.{◌≡◌, ℕ, zero, suc, ◌+◌, ◌≤◌, ◌<◌, Bool, true, false, ◌||◌, leb, eqb, List, [], ◌∷◌, ◌++◌, length, get_or, take, drop, None, refl, sym, ap, subst, ◌∙◌, append_assoc, arith, inl, inr}
 use Rattle.std.specs.List.{flat_map}
-use Rattle.std.proofs.lemmas.Bool.{cases_eq, or_cases, or_parts, leb-true, eqb-true, not-false, ltb-false}
+use Rattle.std.proofs.lemmas.Bool.{or_cases, or_parts, leb-true, eqb-true, not-false, ltb-false}
 use Rattle.std.proofs.lemmas.Int.{of_z-to_z}
 use Rattle.std.proofs.lemmas.List.{take-append-drop, drop-drop, length-take, length-drop}
 use Rattle.std.specs.Int.{w32}
@@ -16,7 +16,7 @@ use Rattle.log_model.specs.Logs.{word32, word64, signed32, step_text, read_text,
 use Rattle.log_model.specs.Faults.{long_at, tag_of, step_length, step_of, step_end, fields_of, fields_length, fixed_length, moved, data_length, left_on, is_read_result_wrong, is_write_result_wrong, is_trap_kind_wrong, record_fault}
 use Rattle.log_model.specs.Reading.{arguments_of, result_of, data_of, read_bytes, item_of, item_length}
 use Rattle.log_model.proofs.Faults.{IsKnown, no_fault}
-use Rattle.log_model.proofs.Items.{IsFront, IsNext}
+use Rattle.log_model.proofs.Items.{item_text, item_at, IsForm, IsFront, IsItemOf, IsNext}
 use Rattle.log_model.proofs.Words.{IsBytes-drop, IsBytes-take, word_spelt, long_spelt, word_below, long_below, byte_spelt, step_spelt, step_below}
 use Rattle.log_model.proofs.Results.{moved_of, fits_of, read_result_of, write_result_of}
 
@@ -36,14 +36,12 @@ record AreFields (v : Version) (rest : List ℕ) (t : ℕ) : Type 0 where
   are_bytes : IsBytes (fields_of v rest)
   whole : fields_length t + data_length v t rest ≤ length (fields_of v rest)
   past : drop (fields_length t) (fields_of v rest) ≡ drop (fixed_length v t) rest
-  below : step_of v rest < step_end v
 
 are_fields : (v : Version) (least : ℕ) (left : List (List ℕ)) (rest : List ℕ) (t : ℕ) → IsSound v least left rest t → AreFields v rest t
 are_fields v least left rest t s = record {
   are_bytes = IsBytes-drop (1 + step_length v) rest s.are_bytes;
   whole = omega (arith, s.known.whole, length-drop (1 + step_length v) rest);
   past = drop-drop (fields_length t) (1 + step_length v) rest;
-  below = step_below v rest s.are_bytes;
 }
 
 -- the tag and the step number before the rest of a record
@@ -59,53 +57,44 @@ spelt_with : (v : Version) (least : ℕ) (left : List (List ℕ)) (rest fields a
 spelt_with v least left rest fields after t s e =
     tag_spelt v least left rest (fields ++ after) t s e ∙ ap (λ (x : List ℕ). t ∷ x) (sym (append_assoc (step_text v (step_of v rest)) fields after))
 
+-- an item at that step, whose text is at the front
+next_of : (v : Version) (least : ℕ) (left : List (List ℕ)) (rest : List ℕ) (t : ℕ) (item : Item) (after : List ℕ) → IsSound v least left rest t → step_of v rest ≡ item_at item → IsForm item → IsItemOf v left item → rest ≡ item_text v item ++ after
+    → IsNext v least left rest item after
+next_of v least left rest t item after s e form allowed parts = record {
+  form = form;
+  written = subst (λ (k : ℕ). k < step_end v) e (step_below v rest s.are_bytes);
+  order = subst (λ (k : ℕ). least ≤ k) e s.known.order;
+  allowed = allowed;
+  parts = parts;
+}
+
 limit_next : (v : Version) (least : ℕ) (left : List (List ℕ)) (rest : List ℕ) → IsSound v least left rest 7 → IsNext v least left rest (End (Limit (step_of v rest))) (drop (fixed_length v 7) rest)
 limit_next v least left rest s =
     let f = are_fields v least left rest 7 s in
-    record {
-      form = omega (arith, s.known.below);
-      written = f.below;
-      order = s.known.order;
-      allowed = s.known.bytes;
-      parts = tag_spelt v least left rest _ 7 s f.past;
-    }
+    next_of v least left rest 7 _ _ s refl (omega (arith, s.known.below)) s.known.bytes
+    (tag_spelt v least left rest _ 7 s f.past)
 
 other_next : (v : Version) (least : ℕ) (left : List (List ℕ)) (rest : List ℕ) → IsSound v least left rest 4 → IsNext v least left rest (Call (Other (step_of v rest) (word_at (fields_of v rest) 0))) (drop (fixed_length v 4) rest)
 other_next v least left rest s =
     let fields = fields_of v rest in
     let f = are_fields v least left rest 4 s in
-    record {
-      form = (s.known.below, word_below fields 0 f.are_bytes);
-      written = f.below;
-      order = s.known.order;
-      allowed = tt;
-      parts = spelt_with v least left rest (word32 (word_at fields 0)) _ 4 s (then_word fields 0 _ f.are_bytes (omega (arith, f.whole)) f.past);
-    }
+    next_of v least left rest 4 _ _ s refl (s.known.below, word_below fields 0 f.are_bytes) tt
+    (spelt_with v least left rest (word32 (word_at fields 0)) _ 4 s (then_word fields 0 _ f.are_bytes (omega (arith, f.whole)) f.past))
 
 exit_next : (v : Version) (least : ℕ) (left : List (List ℕ)) (rest : List ℕ) → IsSound v least left rest 5 → IsNext v least left rest (End (Exit (step_of v rest) (word_at (fields_of v rest) 0))) (drop (fixed_length v 5) rest)
 exit_next v least left rest s =
     let fields = fields_of v rest in
     let f = are_fields v least left rest 5 s in
-    record {
-      form = (s.known.below, word_below fields 0 f.are_bytes);
-      written = f.below;
-      order = s.known.order;
-      allowed = s.known.bytes;
-      parts = spelt_with v least left rest (word32 (word_at fields 0)) _ 5 s (then_word fields 0 _ f.are_bytes (omega (arith, f.whole)) f.past);
-    }
+    next_of v least left rest 5 _ _ s refl (s.known.below, word_below fields 0 f.are_bytes) s.known.bytes
+    (spelt_with v least left rest (word32 (word_at fields 0)) _ 5 s (then_word fields 0 _ f.are_bytes (omega (arith, f.whole)) f.past))
 
 clock_next : (v : Version) (least : ℕ) (left : List (List ℕ)) (rest : List ℕ) → IsSound v least left rest 3 → IsNext v least left rest (Call (Clock (step_of v rest) (long_at (fields_of v rest) 0))) (drop (fixed_length v 3) rest)
 clock_next v least left rest s =
     let fields = fields_of v rest in
     let f = are_fields v least left rest 3 s in
     let spelt = long_spelt fields 0 f.are_bytes (omega (arith, f.whole)) ∙ ap (λ (x : List ℕ). word64 (long_at fields 0) ++ x) f.past in
-    record {
-      form = (s.known.below, long_below fields 0 f.are_bytes);
-      written = f.below;
-      order = s.known.order;
-      allowed = tt;
-      parts = spelt_with v least left rest (word64 (long_at fields 0)) _ 3 s spelt;
-    }
+    next_of v least left rest 3 _ _ s refl (s.known.below, long_below fields 0 f.are_bytes) tt
+    (spelt_with v least left rest (word64 (long_at fields 0)) _ 3 s spelt)
 
 trap_kind : (k : ℕ) → is_trap_kind_wrong k ≡ false → IsTrapKind k
 trap_kind k e =
@@ -124,13 +113,8 @@ trap_next v least left rest s =
     let second : drop 4 fields ≡ pc ++ drop (fixed_length v 6) rest = then_word fields 4 _ f.are_bytes (omega (arith, f.whole)) f.past in
     let spelt : fields ≡ kind ++ pc ++ drop (fixed_length v 6) rest = then_word fields 0 _ f.are_bytes (omega (arith, f.whole)) second in
     let parts : rest ≡ 6 ∷ (step_text v (step_of v rest) ++ (kind ++ pc) ++ drop (fixed_length v 6) rest) = spelt_with v least left rest (kind ++ pc) _ 6 s spelt in
-    record {
-      form = (omega (arith, s.known.below), trap_kind (word_at fields 0) s.known.outcome, word_below fields 4 f.are_bytes);
-      written = f.below;
-      order = s.known.order;
-      allowed = s.known.bytes;
-      parts = parts ∙ ap (λ (x : List ℕ). 6 ∷ (x ++ drop (fixed_length v 6) rest)) (sym (append_assoc (step_text v (step_of v rest)) kind pc));
-    }
+    next_of v least left rest 6 _ _ s refl (omega (arith, s.known.below), trap_kind (word_at fields 0) s.known.outcome, word_below fields 4 f.are_bytes) s.known.bytes
+    (parts ∙ ap (λ (x : List ℕ). 6 ∷ (x ++ drop (fixed_length v 6) rest)) (sym (append_assoc (step_text v (step_of v rest)) kind pc)))
 
 -- ---- reads and writes
 
@@ -203,13 +187,9 @@ read_next v least left rest fits s =
     let r = read_of v least left rest s fits in
     let wrong = is_read_result_wrong (word_at fields 8) (word_at fields 12) in
     let spelt = transfer_spelt fields _ f.are_bytes (omega (arith, f.whole)) (f.past ∙ r.parts) in
-    record {
-      form = (s.known.below, transferred fields _ f.are_bytes r.are_bytes r.size, read_result_of (word_at fields 8) (word_at fields 12) (word_below fields 12 f.are_bytes) (or_parts wrong false (or_parts (wrong || false) false s.known.outcome).0).0);
-      written = f.below;
-      order = s.known.order;
-      allowed = r.front;
-      parts = tag_spelt v least left rest _ 1 s spelt ∙ regroup 1 (step_text v (step_of v rest)) (flat_map word32 (arguments_of fields)) (signed32 (result_of fields)) (read_text v (read_bytes v left rest)) (drop (fixed_length v 1 + data_length v 1 rest) rest);
-    }
+    let result = read_result_of (word_at fields 8) (word_at fields 12) (word_below fields 12 f.are_bytes) (or_parts wrong false (or_parts (wrong || false) false s.known.outcome).0).0 in
+    next_of v least left rest 1 _ _ s refl (s.known.below, transferred fields _ f.are_bytes r.are_bytes r.size, result) r.front
+    (tag_spelt v least left rest _ 1 s spelt ∙ regroup 1 (step_text v (step_of v rest)) (flat_map word32 (arguments_of fields)) (signed32 (result_of fields)) (read_text v (read_bytes v left rest)) (drop (fixed_length v 1 + data_length v 1 rest) rest))
 
 write_next : (v : Version) (least : ℕ) (left : List (List ℕ)) (rest : List ℕ) → IsSound v least left rest 2
     → IsNext v least left rest (Call (Write (step_of v rest) (arguments_of (fields_of v rest)) (result_of (fields_of v rest)) (data_of v 2 rest))) (drop (fixed_length v 2 + data_length v 2 rest) rest)
@@ -219,37 +199,22 @@ write_next v least left rest s =
     let wrong = is_write_result_wrong (word_at fields 8) (word_at fields 12) in
     let are_data : IsBytes (data_of v 2 rest) = IsBytes-take _ _ (IsBytes-drop (fixed_length v 2) rest s.are_bytes) in
     let spelt = transfer_spelt fields _ f.are_bytes (omega (arith, f.whole)) (f.past ∙ data_spelt v 2 rest) in
-    record {
-      form = (s.known.below, transferred fields _ f.are_bytes are_data (length-data_of v 2 rest s.known.whole), write_result_of (word_at fields 8) (word_at fields 12) (word_below fields 12 f.are_bytes) (or_parts wrong false s.known.outcome).0);
-      written = f.below;
-      order = s.known.order;
-      allowed = tt;
-      parts = tag_spelt v least left rest _ 2 s spelt ∙ regroup 2 (step_text v (step_of v rest)) (flat_map word32 (arguments_of fields)) (signed32 (result_of fields)) (data_of v 2 rest) (drop (fixed_length v 2 + data_length v 2 rest) rest);
-    }
+    let result = write_result_of (word_at fields 8) (word_at fields 12) (word_below fields 12 f.are_bytes) (or_parts wrong false s.known.outcome).0 in
+    next_of v least left rest 2 _ _ s refl (s.known.below, transferred fields _ f.are_bytes are_data (length-data_of v 2 rest s.known.whole), result) tt
+    (tag_spelt v least left rest _ 2 s spelt ∙ regroup 2 (step_text v (step_of v rest)) (flat_map word32 (arguments_of fields)) (signed32 (result_of fields)) (data_of v 2 rest) (drop (fixed_length v 2 + data_length v 2 rest) rest))
 
 -- ---- each tag
 
 seven : (P : ℕ → Type 0) → P 1 → P 2 → P 3 → P 4 → P 5 → P 6 → P 7 → (t : ℕ) → 1 ≤ t → t ≤ 7 → P t
-seven P a b c d e f g t low high =
-    elim (cases_eq t 1) [
-      | inl h ↦ subst P (sym h) a
-      | inr n1 ↦ elim (cases_eq t 2) [
-        | inl h ↦ subst P (sym h) b
-        | inr n2 ↦ elim (cases_eq t 3) [
-          | inl h ↦ subst P (sym h) c
-          | inr n3 ↦ elim (cases_eq t 4) [
-            | inl h ↦ subst P (sym h) d
-            | inr n4 ↦ elim (cases_eq t 5) [
-              | inl h ↦ subst P (sym h) e
-              | inr n5 ↦ elim (cases_eq t 6) [
-                | inl h ↦ subst P (sym h) f
-                | inr n6 ↦ let last : 7 ≡ t = omega arith in subst P last g
-              ]
-            ]
-          ]
-        ]
-      ]
-    ]
+seven P a b c d e f g zero low high = absurd (omega arith)
+seven P a b c d e f g (suc zero) low high = a
+seven P a b c d e f g (suc (suc zero)) low high = b
+seven P a b c d e f g (suc (suc (suc zero))) low high = c
+seven P a b c d e f g (suc (suc (suc (suc zero)))) low high = d
+seven P a b c d e f g (suc (suc (suc (suc (suc zero))))) low high = e
+seven P a b c d e f g (suc (suc (suc (suc (suc (suc zero)))))) low high = f
+seven P a b c d e f g (suc (suc (suc (suc (suc (suc (suc zero))))))) low high = g
+seven P a b c d e f g (suc (suc (suc (suc (suc (suc (suc (suc t)))))))) low high = absurd (omega (arith, high))
 
 -- a record without data ends with its fields
 no_data : (v : Version) (least : ℕ) (left : List (List ℕ)) (rest : List ℕ) (item : Item) (n : ℕ) → IsNext v least left rest item (drop n rest) → IsNext v least left rest item (drop (n + 0) rest)

@@ -7,10 +7,8 @@ mod Results
 pub mod Left
 mod Again
 mod Front
-mod HeaderAgain
 mod Headers
 pub mod Channels
-pub mod Kept
 pub mod Reading
 pub mod Soundness
 pub mod Unique

@@ -15,13 +15,11 @@ use Rattle.log_model.specs.declared.LogKind.TheVariants.{Header, Trailing}
 use Rattle.log_model.specs.Logs.{Log, IsLog, IsTextOf, CanHold, kept_channels, log_text, at_of, end_at, channel_text, record_text, end_text, least_after, IsRecord, IsEnd, Rise}
 use Rattle.log_model.specs.Faults.{version_of, channel_count, is_channel_cut, step_end, are_left, header_fault, record_fault, AreLeft, AreChannels, IsRead, HasFault, InHeader, InChannel, InRecord, AfterEnd}
 use Rattle.log_model.specs.Reading.{item_of, item_length, left_after, map_ok, Channels, channels_of, Body, with_call, with_end, body_of, with_header, after_channels, body_in, log_of}
-use Rattle.log_model.proofs.HeaderAgain.{log_again}
-use Rattle.log_model.proofs.Headers.{headed}
+use Rattle.log_model.proofs.Headers.{log_again, headed}
 use Rattle.log_model.proofs.Items.{IsCallOf}
 use Rattle.log_model.proofs.Again.{item_again}
-use Rattle.log_model.proofs.Left.{HasNone, none_after, call_of, left_next, left_same}
+use Rattle.log_model.proofs.Left.{HasNone, none_after, call_of, left_next, left_same, none_left, end_written, text_read}
 use Rattle.log_model.proofs.Channels.{joined, channels_read, channels_of-none, channels_of-cut}
-use Rattle.log_model.proofs.Kept.{none_left, end_written, text_read}
 
 -- ---- one record
 
@@ -159,7 +157,7 @@ all_read v bytes channels rest stand all =
     ∙ ap (map_ok (joined channels)) (channels_of-none (48 + length (flat_map channel_text channels)) rest)
     ∙ ap (λ (x : List (List ℕ)). Ok (x, rest)) (append-nil channels)
 
-text_some : (v : Version) (call : CallRecord) → 1 ≤ length (record_text v call)
+pub text_some : (v : Version) (call : CallRecord) → 1 ≤ length (record_text v call)
 text_some v (Read at args result bytes) = omega arith
 text_some v (Write at args result bytes) = omega arith
 text_some v (Clock at value) = omega arith

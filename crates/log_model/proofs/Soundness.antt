@@ -19,14 +19,12 @@ use Rattle.log_model.specs.Faults.{version_of, channel_count, step_end, are_left
 use Rattle.log_model.specs.Reading.{item_of, item_length, left_after, map_ok, Channels, channels_of, Body, with_call, with_end, body_of, with_header, after_channels, log_of}
 use Rattle.log_model.proofs.Words.{IsBytes-drop, IsBytes-take}
 use Rattle.log_model.proofs.Items.{item_text, IsNext}
-use Rattle.log_model.proofs.Left.{HasNone, none_after, left_nil, left_more, same_place}
+use Rattle.log_model.proofs.Left.{HasNone, none_after, left_nil, left_more, same_place, are_kept}
 use Rattle.log_model.proofs.Again.{item_again}
 use Rattle.log_model.proofs.Front.{AreAllBytes, item_next}
-use Rattle.log_model.proofs.Headers.{headed, header_spelt}
-use Rattle.log_model.proofs.HeaderAgain.{text_parts}
+use Rattle.log_model.proofs.Headers.{headed, header_spelt, text_parts}
 use Rattle.log_model.proofs.Channels.{AreSound, channels_sound}
-use Rattle.log_model.proofs.Kept.{are_kept}
-use Rattle.log_model.proofs.Reading.{none_of, body_of-fault, body_of-call, body_of-end, log_of-fault, log_of-body}
+use Rattle.log_model.proofs.Reading.{text_some, none_of, body_of-fault, body_of-call, body_of-end, log_of-fault, log_of-body}
 
 -- ---- what is read after the channels
 
@@ -101,10 +99,7 @@ sound_end v least end offset bytes (b ∷ after) channels last next e =
     OfEnd [] last channels (b ∷ after) record { are_records = tt; written = tt; rise = tt; taken = left_nil v channels; text = next.parts } next.form next.written next.order next.allowed (omega arith) refl e
 
 item_some : (v : Version) (item : Item) → 1 ≤ length (item_text v item)
-item_some v (Call (Read at args result bytes)) = omega arith
-item_some v (Call (Write at args result bytes)) = omega arith
-item_some v (Call (Clock at value)) = omega arith
-item_some v (Call (Other at number)) = omega arith
+item_some v (Call call) = text_some v call
 item_some v (End (Exit at code)) = omega arith
 item_some v (End (Trap at kind pc)) = omega arith
 item_some v (End (Limit at)) = omega arith

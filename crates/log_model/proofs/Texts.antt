@@ -19,9 +19,9 @@ use Rattle.log_model.specs.Moved.{received, received_by}
 use Rattle.log_model.specs.Logs.{Log, IsLog, IsTextOf, CanHold, IsTransfer, moved_length, magic, log_text, header_text, channel_text, kept_channels, record_text, end_text, kept_length, share, step_text, word32, signed32}
 use Rattle.log_model.specs.Faults.{step_length, HasFault, AfterEnd}
 use Rattle.log_model.specs.Laws.{HaveLength, ArePrefixFree}
-use Rattle.log_model.proofs.HeaderAgain.{IsHeaderAgain, after_header, header_again, text_parts}
+use Rattle.log_model.proofs.Headers.{magic_length, IsHeaderAgain, after_header, header_again, text_parts}
 use Rattle.log_model.proofs.Words.{length-step_text}
-use Rattle.log_model.proofs.Kept.{emptied, none_left, end_written, text_read_to}
+use Rattle.log_model.proofs.Left.{emptied, none_left, end_written, text_read_to}
 use Rattle.log_model.proofs.Unique.{faulty_is_no_log}
 
 -- ---- records
@@ -108,10 +108,6 @@ kept_texts : (log : Log) → length (flat_map channel_text (kept_channels Two lo
 kept_texts log = omega (arith, channel_texts (kept_channels Two log), channels_sum log.inputs log.records, length-map-range_with_len (λ c. received c log.records) 0 log.inputs)
 
 -- ---- the whole
-
-magic_length : (v : Version) → length (magic v) ≡ 8
-magic_length One = refl
-magic_length Two = refl
 
 parts_length : (v : Version) (log : Log) → IsLog log → length (log_text v log) ≡ 48 + length (flat_map channel_text (kept_channels v log)) + sum_by (λ r. length (record_text v r)) log.records + length (end_text v log.end)
 parts_length v log is =

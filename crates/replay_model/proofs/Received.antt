@@ -178,11 +178,10 @@ reads_are_received s log form d channel offset = (
 
 -- nothing is received on a channel that isn't one of the log's
 pub none_received : (s : State) (log : Log) → IsLog log → divergence s log ≡ None → (channel : ℕ) → log.inputs ≤ channel → received channel log.records ≡ []
-none_received s log form d channel above = by (cases_lt 0 (length (received channel log.records)))
-  where
-    by : (0 < length (received channel log.records)) ⊎ (length (received channel log.records) ≤ 0) → received channel log.records ≡ []
-    by (inl some) = let f = found_in_trace s log form d channel 0 some in let below = f.below in absurd (omega arith)
-    by (inr none) = nil_from_length (received channel log.records) (omega arith)
+none_received s log form d channel above = elim (cases_lt 0 (length (received channel log.records))) [
+  | inl some ↦ absurd (omega (arith, (found_in_trace s log form d channel 0 some).below))
+  | inr none ↦ nil_from_length (received channel log.records) (omega arith)
+]
 
 pub fitting_is_held : (s : State) (log : Log) → IsLog log → divergence s log ≡ None → length (log_text Two log) ≤ 2 ^ 27 → CanHold Two log
 fitting_is_held s log form d small = can_hold log (none_received s log form d) (omega arith)

@@ -8,6 +8,7 @@ use Rattle.log_model.specs.declared.Version.TheVariants.{Two}
 use Rattle.log_model.specs.declared.CallRecord.{CallRecord}
 use Rattle.log_model.specs.declared.CallRecord.TheVariants.{Read, Write, Clock, Other}
 use Rattle.log_model.specs.Logs.{Log, IsRecord, channel_text, kept_channels, log_text, record_text, header_text, end_text, step_text, word32, signed32}
+use Rattle.log_model.proofs.Reading.{no_more_than_bytes}
 use Rattle.log_model.proofs.Texts.{data_below}
 use Rattle.log_model.specs.Moved.{received_of, written_of, is_on, written_by, written}
 
@@ -57,18 +58,8 @@ written_fits channel log =
 
 -- ---- the number of records
 
-some_text : (r : CallRecord) → 1 ≤ length (record_text Two r)
-some_text (Read at args result bytes) = omega arith
-some_text (Write at args result bytes) = omega arith
-some_text (Clock at value) = omega arith
-some_text (Other at number) = omega arith
-
-few_records : (rs : List CallRecord) → length rs ≤ length (flat_map (record_text Two) rs)
-few_records [] = omega arith
-few_records (r ∷ rs) = rw (flat_map-cons (record_text Two) r rs) (omega (arith, length-append (record_text Two r) (flat_map (record_text Two) rs), some_text r, few_records rs))
-
 pub records_fit_text : (log : Log) → length log.records ≤ length (log_text Two log)
-records_fit_text log = omega (arith, text_parts log, few_records log.records)
+records_fit_text log = omega (arith, text_parts log, no_more_than_bytes Two log.records)
 
 -- ---- each call moves fewer than 2^31 bytes
 

@@ -1,5 +1,5 @@
 -- The moments of a run up to the end, where nothing differs. Crates above cite these lemmas.
-use Rattle.std.proofs.Common.{◌≡◌, ℕ, zero, suc, ◌+◌, ◌<◌, ◌≤◌, ◌⊎◌, inl, inr, Bool, List, [], ◌∷◌, ◌++◌, None, refl, arith, ap, sym, ◌∙◌, subst, add-zero, zero-add, append-nil, append_assoc}
+use Rattle.std.proofs.Common.{◌≡◌, ℕ, zero, suc, ◌+◌, ◌<◌, ◌≤◌, inl, inr, Bool, List, [], ◌∷◌, ◌++◌, None, refl, arith, ap, sym, ◌∙◌, subst, add-zero, zero-add, append-nil, append_assoc}
 use Rattle.std.specs.Prelude.{nat_lt, if◌then◌else◌}
 use Rattle.std.specs.List.{AllByRecursion}
 use Rattle.std.proofs.lemmas.Bool.{cases_lt, lt-ltb, le-ltb}
@@ -101,17 +101,12 @@ time_by log t s done [] below d =
     let m = moment t s done [] in
     let plain = plain_agrees m log.inputs (agrees_with log m PlainStep (expects_plain_at_end t log.end below) d) in
     ap (λ (o : Outcome). (after_outcome m o).time) plain.1
-time_by log t s done (r ∷ rs) below d = by (cases_lt t (at_of r))
-  where
-    by : (t < at_of r) ⊎ (at_of r ≤ t) → (advance (moment t s done (r ∷ rs))).time ≡ t + 1
-    by (inl h) =
-        let m = moment t s done (r ∷ rs) in
-        let plain = plain_agrees m log.inputs (agrees_with log m PlainStep (expects_plain_before t r rs log.end h) d) in
-        ap (λ (o : Outcome). (after_outcome m o).time) plain.1
-    by (inr h) =
-        let m = moment t s done (r ∷ rs) in
-        let call = call_agrees m log.inputs r (agrees_with log m (CallOf r) (expects_call t r rs log.end h) d) in
-        ap (λ (o : Outcome). (after_outcome m o).time) call.calls
+time_by log t s done (r ∷ rs) below d =
+    let m = moment t s done (r ∷ rs) in
+    elim (cases_lt t (at_of r)) [
+      | inl h ↦ ap (λ (o : Outcome). (after_outcome m o).time) (plain_agrees m log.inputs (agrees_with log m PlainStep (expects_plain_before t r rs log.end h) d)).1
+      | inr h ↦ ap (λ (o : Outcome). (after_outcome m o).time) (call_agrees m log.inputs r (agrees_with log m (CallOf r) (expects_call t r rs log.end h) d)).calls
+    ]
 
 -- a step before the end takes one unit of time
 pub step_time : (log : Log) (m : Moment) → m.time < end_at log.end → difference log m ≡ None → (advance m).time ≡ m.time + 1
@@ -132,16 +127,12 @@ stays_by : (log : Log) (t : ℕ) (s : State) (done left : List CallRecord) → I
 stays_by log t s done [] on below d =
     let m = moment t s done [] in
     stays_plain log m on tt (omega arith) (agrees_with log m PlainStep (expects_plain_at_end t log.end below) d)
-stays_by log t s done (r ∷ rs) on below d = by (cases_lt t (at_of r))
-  where
-    by : (t < at_of r) ⊎ (at_of r ≤ t) → IsOnTrack log (advance (moment t s done (r ∷ rs)))
-    by (inl h) =
-        let m = moment t s done (r ∷ rs) in
-        stays_plain log m on (omega arith, on.rise.1) on.ends_after (agrees_with log m PlainStep (expects_plain_before t r rs log.end h) d)
-    by (inr h) =
-        let m = moment t s done (r ∷ rs) in
-        let due : at_of r ≡ t = omega (arith, on.rise.0) in
-        stays_call log t s done r rs due on (agrees_with log m (CallOf r) (expects_call t r rs log.end h) d)
+stays_by log t s done (r ∷ rs) on below d =
+    let m = moment t s done (r ∷ rs) in
+    elim (cases_lt t (at_of r)) [
+      | inl h ↦ stays_plain log m on (omega arith, on.rise.1) on.ends_after (agrees_with log m PlainStep (expects_plain_before t r rs log.end h) d)
+      | inr h ↦ stays_call log t s done r rs (omega (arith, on.rise.0)) on (agrees_with log m (CallOf r) (expects_call t r rs log.end h) d)
+    ]
 
 -- a moment before the end is followed by one of the same kind
 pub stays_on : (log : Log) (m : Moment) → IsOnTrack log m → m.time < end_at log.end → difference log m ≡ None → IsOnTrack log (advance m)

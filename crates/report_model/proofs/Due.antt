@@ -6,7 +6,7 @@ use Rattle.std.specs.Cmp.{nat_cmp_is}
 use Rattle.std.specs.Ordering.{ordering_then}
 use Rattle.std.specs.declared.cmp.Ordering.{Ordering}
 use Rattle.std.specs.declared.cmp.Ordering.TheVariants.{Less, Greater}
-use Rattle.std.proofs.lemmas.Bool.{cases_lt}
+use Rattle.std.proofs.lemmas.Bool.{cases_lt, ne_eqb, eq-eqb, le-leb, lt-leb}
 use Rattle.std.proofs.lemmas.Bool.Decides.{nat_tests}
 use Rattle.std.proofs.lemmas.List.{take_more, drop_more, drop_all, map-append}
 use Rattle.std.proofs.lemmas.List.Elements.{All-from_recursion}
@@ -19,18 +19,6 @@ use Rattle.lists.specs.Sets.{IsBelow, Ascends}
 use Rattle.lists.proofs.Algebra.{Ascends-drop}
 use Rattle.lists.proofs.Filters.{Ascends-filter}
 use Rattle.report_model.specs.Rows.{point_sink, at_time, from_time}
-
-same_time : (a b : ℕ) → a ≡ b → nat_eq a b ≡ true
-same_time a b e = grind (arith, nat_tests)
-
-other_time : (a b : ℕ) → b < a → nat_eq a b ≡ false
-other_time a b l = grind (arith, nat_tests)
-
-in_time : (a b : ℕ) → a ≤ b → nat_le a b ≡ true
-in_time a b l = grind (arith, nat_tests)
-
-too_soon : (a b : ℕ) → b < a → nat_le a b ≡ false
-too_soon a b l = grind (arith, nat_tests)
 
 -- a point above another has no lesser time
 not_sooner : (a b : InnerSink) → inner_cmp a b ≡ Less → a.time ≤ b.time
@@ -47,11 +35,11 @@ after_first t p (q ∷ qs) l b = (omega (arith, not_sooner p q b.0, l), after_fi
 
 none_due : (t : ℕ) (ps : List InnerSink) → AreAfter t ps → at_time t ps ≡ []
 none_due t [] a = refl
-none_due t (p ∷ ps) a = ap (λ (b : Bool). cond b (p ∷ at_time t ps) (at_time t ps)) (other_time p.time t a.0) ∙ none_due t ps a.1
+none_due t (p ∷ ps) a = ap (λ (b : Bool). cond b (p ∷ at_time t ps) (at_time t ps)) (ne_eqb p.time t (λ e. omega (arith, e, a.0))) ∙ none_due t ps a.1
 
 all_later : (t : ℕ) (ps : List InnerSink) → AreAfter t ps → from_time (t + 1) ps ≡ ps
 all_later t [] a = refl
-all_later t (p ∷ ps) a = ap (λ (b : Bool). cond b (p ∷ from_time (t + 1) ps) (from_time (t + 1) ps)) (in_time (t + 1) p.time (omega (arith, a.0))) ∙ ap (λ (qs : List InnerSink). p ∷ qs) (all_later t ps a.1)
+all_later t (p ∷ ps) a = ap (λ (b : Bool). cond b (p ∷ from_time (t + 1) ps) (from_time (t + 1) ps)) (le-leb (t + 1) p.time (omega (arith, a.0))) ∙ ap (λ (qs : List InnerSink). p ∷ qs) (all_later t ps a.1)
 
 -- ---- the points due, one after another
 
@@ -66,14 +54,14 @@ module _ (t : ℕ) (points : List InnerSink) (n : ℕ) (p : InnerSink) (l : n < 
   turn_more h e =
       let rest = at_time t (drop (n + 1) points) in
       e ∙ ap (λ (qs : List InnerSink). take n points ++ at_time t qs) back
-      ∙ ap (λ (b : Bool). take n points ++ cond b (p ∷ rest) rest) (same_time p.time t h)
+      ∙ ap (λ (b : Bool). take n points ++ cond b (p ∷ rest) rest) (eq-eqb p.time t h)
       ∙ sym (append_assoc (take n points) (p ∷ []) rest)
       ∙ ap (λ (qs : List InnerSink). qs ++ rest) (sym front)
 
   pub later_more : p.time ≡ t → from_time (t + 1) points ≡ from_time (t + 1) (drop n points) → from_time (t + 1) points ≡ from_time (t + 1) (drop (n + 1) points)
   later_more h e =
       let rest = from_time (t + 1) (drop (n + 1) points) in
-      e ∙ ap (from_time (t + 1)) back ∙ ap (λ (b : Bool). cond b (p ∷ rest) rest) (too_soon (t + 1) p.time (omega (arith, h)))
+      e ∙ ap (from_time (t + 1)) back ∙ ap (λ (b : Bool). cond b (p ∷ rest) rest) (lt-leb (t + 1) p.time (omega (arith, h)))
 
   pub sinks_more : map point_sink (take (n + 1) points) ≡ map point_sink (take n points) ++ point_sink p ∷ []
   sinks_more = ap (map point_sink) front ∙ map-append point_sink (take n points) (p ∷ [])
@@ -99,7 +87,7 @@ module _ (t : ℕ) (points : List InnerSink) (n : ℕ) (a : AreAfter t (drop n p
 
 pub all_from : (ps : List InnerSink) → from_time 0 ps ≡ ps
 all_from [] = refl
-all_from (p ∷ ps) = ap (λ (b : Bool). cond b (p ∷ from_time 0 ps) (from_time 0 ps)) (in_time 0 p.time (omega arith)) ∙ ap (λ (qs : List InnerSink). p ∷ qs) (all_from ps)
+all_from (p ∷ ps) = ap (λ (b : Bool). cond b (p ∷ from_time 0 ps) (from_time 0 ps)) (le-leb 0 p.time (omega arith)) ∙ ap (λ (qs : List InnerSink). p ∷ qs) (all_from ps)
 
 due_of : (t : ℕ) (ps : List InnerSink) → at_time t (from_time t ps) ≡ at_time t ps
 due_of t [] = refl
@@ -126,9 +114,6 @@ none_sooner t (p ∷ ps) = by (nat_le t p.time) refl (none_sooner t ps) where
   by true e ih = (grind (arith, nat_tests), ih)
   by false e ih = ih
 
-all_in_time : (t : ℕ) (ps : List InnerSink) → All (λ p. t ≤ p.time) (from_time t ps)
-all_in_time t ps = All-from_recursion (λ p. t ≤ p.time) (from_time t ps) (none_sooner t ps)
-
 -- where the points that are left are those at t or later, the ones due are those at t, and the later ones those after t
 module _ (t n : ℕ) (left points : List InnerSink) (now : n ≡ t) (is : left ≡ from_time t points) where
   pub due_now : at_time n left ≡ at_time t points
@@ -138,7 +123,7 @@ module _ (t n : ℕ) (left points : List InnerSink) (now : n ≡ t) (is : left �
   later_now = ap₂ (λ (k : ℕ) (ps : List InnerSink). from_time (k + 1) ps) now is ∙ later_of t points
 
   pub left_in_time : All (λ p. n ≤ p.time) left
-  left_in_time = subst (λ (k : ℕ). All (λ p. k ≤ p.time) left) (sym now) (subst (All (λ p. t ≤ p.time)) (sym is) (all_in_time t points))
+  left_in_time = subst (λ (k : ℕ). All (λ p. k ≤ p.time) left) (sym now) (subst (All (λ p. t ≤ p.time)) (sym is) (All-from_recursion (λ p. t ≤ p.time) (from_time t points) (none_sooner t points)))
 
   pub left_ascend : Ascends inner_cmp points → Ascends inner_cmp left
   left_ascend a = subst (Ascends inner_cmp) (sym is) (Ascends-filter inner_cmp (λ p. nat_le t p.time) points a)

@@ -1,5 +1,5 @@
 -- Worked examples of queries, computed by the checker.
-use Rattle.std.proofs.Common.{◌≡◌, ℕ, List, [], ◌∷◌, refl}
+use Rattle.std.proofs.Common.{◌≡◌, ℕ, List, [], ◌∷◌, map, refl}
 use Prim.Native.String.{String}
 use Rattle.std.specs.Prelude.{◌++◌, codes, Some, None, Result, Ok, Err}
 use Rattle.std.specs.List.{flat_map}
@@ -23,75 +23,46 @@ all_by rule = record { rule = rule; sources = everything ∷ []; sinks = everyth
 abbrev of_lines : List String → List ℕ
 of_lines ls = flat_map (λ l. codes l ++ 0x0a ∷ []) ls
 
-good : query (of_lines ("rule copy" ∷ "source all" ∷ "sink all" ∷ [])) ≡ Ok (all_by Copy)
+good : map (λ rule. query (of_lines (rule ∷ "source all" ∷ "sink all" ∷ []))) ("rule copy" ∷ "rule keep" ∷ "rule index" ∷ []) ≡ map (λ rule. Ok (all_by rule)) (Copy ∷ Keep ∷ Index ∷ [])
 good = refl
 
-good_keep : query (of_lines ("rule keep" ∷ "source all" ∷ "sink all" ∷ [])) ≡ Ok (all_by Keep)
-good_keep = refl
-
-good_compute : query (of_lines ("sink all" ∷ "  rule   compute" ∷ "# a comment" ∷ "" ∷ "source all" ∷ [])) ≡ Ok (all_by Compute)
-good_compute = refl
-
-good_index : query (of_lines ("rule index" ∷ "source all" ∷ "sink all" ∷ [])) ≡ Ok (all_by Index)
-good_index = refl
+-- in any order, with spaces, comments and empty lines
+in_any_order : query (of_lines ("sink all" ∷ "  rule   compute" ∷ "# a comment" ∷ "" ∷ "source all" ∷ [])) ≡ Ok (all_by Compute)
+in_any_order = refl
 
 -- a carriage return before a line feed is dropped; the last line feed may be missing; tabs separate words
 other_ends : query (codes "rule copy" ++ 0x0d ∷ 0x0a ∷ codes "source 0 1 2" ++ 0x0d ∷ 0x0a ∷ 0x09 ∷ codes "sink all") ≡ Ok (record { rule = Copy; sources = record { channel = Some 0; offsets = Some (record { from = 1; past = 2 }) } ∷ []; sinks = everything ∷ []; points = [] })
 other_ends = refl
 
-longer_rule : query (codes "rule keeps") ≡ Err (1, Word)
-longer_rule = refl
+-- each of these lines alone is refused as this
+abbrev AllRefused : QueryKind → List String → Type 0
+AllRefused kind lines = map (λ line. query (codes line)) lines ≡ map (λ line. Err (1, kind)) lines
 
-unknown_rule : query (codes "rule cop") ≡ Err (1, Word)
-unknown_rule = refl
+wrong_words : AllRefused Word ("rule keeps" ∷ "rule cop" ∷ "rule x y" ∷ "sink mem 5 4 on 7" ∷ "sink mem 5 at 7" ∷ "sink reg 5 7 at 9" ∷ [])
+wrong_words = refl
 
-two_unknown : query (codes "rule x y") ≡ Err (1, Word)
-two_unknown = refl
+wrong_counts : AllRefused Count ("rule copy x" ∷ "rule" ∷ "source all 1 2" ∷ "source 0 5" ∷ "sink mem" ∷ "sink reg" ∷ "sink mem 5 4 at" ∷ "sink reg 5" ∷ "sink mem x 4 at 7 8" ∷ "sink reg 0 at 7 8" ∷ [])
+wrong_counts = refl
 
-long_rule : query (codes "rule copy x") ≡ Err (1, Count)
-long_rule = refl
+wrong_numbers : AllRefused Number ("source al" ∷ "source 0 5 4294967296" ∷ "sink mem x 0 at 7" ∷ "sink mem 5 4 at 1099511627777" ∷ "sink reg 0 at 00000000000001" ∷ "sink reg x1 at 7" ∷ "source mem" ∷ [])
+wrong_numbers = refl
 
-no_name : query (codes "rule") ≡ Err (1, Count)
-no_name = refl
+wrong_channels : AllRefused Channel ("sink 16 3 2" ∷ "sink 16" ∷ [])
+wrong_channels = refl
 
-all_with_range : query (codes "source all 1 2") ≡ Err (1, Count)
-all_with_range = refl
+wrong_ranges : AllRefused Range ("sink reg 0 at 5" ∷ "sink reg 32 at 5" ∷ "sink mem 5 0 at 7" ∷ "sink mem 5 65537 at 7" ∷ "sink mem 4294967295 2 at 7" ∷ [])
+wrong_ranges = refl
 
-no_number : query (codes "source al") ≡ Err (1, Number)
-no_number = refl
+second_lines : map (λ line. query (of_lines ("rule copy" ∷ line ∷ []))) ("sink 1 3 2" ∷ "rule copy" ∷ []) ≡ Err (2, Range) ∷ Err (2, SecondRule) ∷ []
+second_lines = refl
 
-large_number : query (codes "source 0 5 4294967296") ≡ Err (1, Number)
-large_number = refl
+-- a comment may be of any bytes
+no_rule : map query ((0x23 ∷ 0xff ∷ 0x0a ∷ codes "sink all") ∷ [] ∷ []) ≡ Err (0, NoRule) ∷ Err (0, NoRule) ∷ []
+no_rule = refl
 
-large_channel : query (codes "sink 16 3 2") ≡ Err (1, Channel)
-large_channel = refl
-
-channel_alone : query (codes "sink 16") ≡ Err (1, Channel)
-channel_alone = refl
-
-half_a_range : query (codes "source 0 5") ≡ Err (1, Count)
-half_a_range = refl
-
-backwards : query (of_lines ("rule copy" ∷ "sink 1 3 2" ∷ [])) ≡ Err (2, Range)
-backwards = refl
-
-second_rule : query (of_lines ("rule copy" ∷ "rule copy" ∷ [])) ≡ Err (2, SecondRule)
-second_rule = refl
-
-comment_of_any_byte : query (0x23 ∷ 0xff ∷ 0x0a ∷ codes "sink all") ≡ Err (0, NoRule)
-comment_of_any_byte = refl
-
-empty : query ([]) ≡ Err (0, NoRule)
-empty = refl
-
-bad_byte : query (0x07 ∷ []) ≡ Err (1, BadByte)
-bad_byte = refl
-
-return_at_the_end : query (codes "rule copy" ++ 0x0d ∷ []) ≡ Err (1, BadByte)
-return_at_the_end = refl
-
-two_returns : query (codes "rule copy" ++ 0x0d ∷ 0x0d ∷ 0x0a ∷ []) ≡ Err (1, BadByte)
-two_returns = refl
+-- a carriage return alone is one of these too
+bad_bytes : map query ((0x07 ∷ []) ∷ (codes "rule copy" ++ 0x0d ∷ []) ∷ (codes "rule copy" ++ 0x0d ∷ 0x0d ∷ 0x0a ∷ []) ∷ (codes "sink mem 5 at " ++ 0x07 ∷ []) ∷ []) ≡ (Err (1, BadByte) ∷ Err (1, BadByte) ∷ Err (1, BadByte) ∷ Err (1, BadByte) ∷ [])
+bad_bytes = refl
 
 -- ---- points inside the run
 
@@ -116,89 +87,14 @@ both_kinds = refl
 last_byte_and_time : second_line "sink mem 4294967295 1 at 1099511627776" ≡ Ok (of_points (record { time = 1099511627776; loc = Mem 4294967295 } ∷ []))
 last_byte_and_time = refl
 
-bad_byte_first : query (codes "sink mem 5 at " ++ 0x07 ∷ []) ≡ Err (1, BadByte)
-bad_byte_first = refl
-
-no_at : query (codes "sink mem 5 4 on 7") ≡ Err (1, Word)
-no_at = refl
-
-no_size : query (codes "sink mem 5 at 7") ≡ Err (1, Word)
-no_size = refl
-
-register_without_at : query (codes "sink reg 5 7 at 9") ≡ Err (1, Word)
-register_without_at = refl
-
-memory_alone : query (codes "sink mem") ≡ Err (1, Count)
-memory_alone = refl
-
-register_alone : query (codes "sink reg") ≡ Err (1, Count)
-register_alone = refl
-
-no_time : query (codes "sink mem 5 4 at") ≡ Err (1, Count)
-no_time = refl
-
-register_without_time : query (codes "sink reg 5") ≡ Err (1, Count)
-register_without_time = refl
-
-more_than_time : query (codes "sink mem x 4 at 7 8") ≡ Err (1, Count)
-more_than_time = refl
-
-register_and_more : query (codes "sink reg 0 at 7 8") ≡ Err (1, Count)
-register_and_more = refl
-
-no_address : query (codes "sink mem x 0 at 7") ≡ Err (1, Number)
-no_address = refl
-
-late : query (codes "sink mem 5 4 at 1099511627777") ≡ Err (1, Number)
-late = refl
-
-long_time : query (codes "sink reg 0 at 00000000000001") ≡ Err (1, Number)
-long_time = refl
-
-no_register : query (codes "sink reg x1 at 7") ≡ Err (1, Number)
-no_register = refl
-
-register_zero : query (codes "sink reg 0 at 5") ≡ Err (1, Range)
-register_zero = refl
-
-register_above : query (codes "sink reg 32 at 5") ≡ Err (1, Range)
-register_above = refl
-
-no_bytes : query (codes "sink mem 5 0 at 7") ≡ Err (1, Range)
-no_bytes = refl
-
-many_bytes : query (codes "sink mem 5 65537 at 7") ≡ Err (1, Range)
-many_bytes = refl
-
-beyond_memory : query (codes "sink mem 4294967295 2 at 7") ≡ Err (1, Range)
-beyond_memory = refl
-
--- neither of these words is one of a source
-memory_is_no_source : query (codes "source mem") ≡ Err (1, Number)
-memory_is_no_source = refl
-
-name_of_byte : point_text (Out (record { channel = 1; offset = 20 })) ≡ codes "1:20"
+names : map point_text (Out (record { channel = 1; offset = 20 }) ∷ At (record { time = 30; loc = Mem 4096 }) ∷ At (record { time = 30; loc = Reg 5 2 }) ∷ []) ≡ map codes ("1:20" ∷ "m:4096@30" ∷ "r:5.2@30" ∷ [])
 unfolding digits
-name_of_byte = refl
-
-name_of_address : point_text (At (record { time = 30; loc = Mem 4096 })) ≡ codes "m:4096@30"
-unfolding digits
-name_of_address = refl
-
-name_of_lane : point_text (At (record { time = 30; loc = Reg 5 2 })) ≡ codes "r:5.2@30"
-unfolding digits
-name_of_lane = refl
+names = refl
 
 -- ---- several queries
 
-none_differs : first_other_rule (all_by Index ∷ all_by Index ∷ []) ≡ None
-none_differs = refl
-
-third_differs : first_other_rule (all_by Copy ∷ all_by Copy ∷ all_by Index ∷ all_by Compute ∷ []) ≡ Some (Copy, 3, Index)
-third_differs = refl
-
-keep_is_no_copy : first_other_rule (all_by Keep ∷ all_by Copy ∷ []) ≡ Some (Keep, 2, Copy)
-keep_is_no_copy = refl
+other_rules : map (λ rules. first_other_rule (map all_by rules)) ((Index ∷ Index ∷ []) ∷ (Copy ∷ Copy ∷ Index ∷ Compute ∷ []) ∷ (Keep ∷ Copy ∷ []) ∷ []) ≡ None ∷ Some (Copy, 3, Index) ∷ Some (Keep, 2, Copy) ∷ []
+other_rules = refl
 
 points_of_both : together (of_points (points_of_memory 8 2 3) ∷ of_points (points_of_register 1 3 ++ points_of_memory 9 2 3) ∷ []) ≡ of_points (points_of_register 1 3 ++ points_of_memory 8 3 3)
 points_of_both = refl

@@ -1,5 +1,5 @@
 -- The points of the queries that texts stand for are at locations. Crates above cite these lemmas.
-use Rattle.std.proofs.Common.{◌≡◌, ℕ, zero, suc, ◌+◌, ◌≤◌, ◌<◌, nat_lt, List, [], ◌∷◌, ◌++◌, Bool, true, false, ◌||◌, if◌then◌else◌, map, refl, subst, arith}
+use Rattle.std.proofs.Common.{◌≡◌, ℕ, zero, suc, ◌+◌, ◌≤◌, ◌<◌, nat_lt, List, [], ◌∷◌, Bool, true, false, ◌||◌, if◌then◌else◌, map, refl, subst, arith}
 use Rattle.std.specs.Prelude.{not, ◌&&◌, Option, Some, None, Result, Ok, Err, codes}
 use Rattle.std.specs.Str.{bytes_eq}
 use Rattle.std.specs.List.{range_with_len, flat_map, list_any, AllByRecursion}
@@ -7,14 +7,14 @@ use Rattle.std.proofs.lemmas.Bool.{ltb-false}
 use Rattle.std.proofs.lemmas.List.Elements.{recursion_from_All, All-from_recursion}
 use Rattle.lists.specs.FirstTrue.{first_true}
 use Rattle.flow_model.specs.declared.InnerSink.{InnerSink}
-use Rattle.flow_model.specs.declared.Rule.{Rule}
 use Rattle.flow_model.specs.Orders.{inner_cmp}
 use Rattle.flow_model.specs.Ranges.{IsLocation}
 use Rattle.lists.specs.Sets.{set_of}
 use Rattle.lists.proofs.Algebra.{All-set_of}
+use Rattle.lists.proofs.Lists.{all-append}
 use Rattle.report_model.specs.declared.QueryKind.{QueryKind}
 use Rattle.report_model.specs.declared.QueryKind.TheVariants.{BadByte, Word, Count, Number, Range}
-use Rattle.report_model.specs.Query.{Query, Choice, AreLocated}
+use Rattle.report_model.specs.Query.{Query, AreLocated}
 use Rattle.report_model.specs.Grammar.{Statement, RuleIs, Source, Sink, Points, says, byte_point, memory_unless, register_unless, is_at, is_number, is_time, value_of, count_or_word, memory_at, register_at, memory_of, register_of, rule_of, choice_of, sink_of, statement_of, is_comment, is_bad_byte, read_line, words, points_in, read_lines, lines, first_fault, query_of, unless}
 use Rattle.report_model.specs.PointLaws.{PointsOfTexts, PointsTogether}
 
@@ -86,17 +86,10 @@ said_points : (r : Result (List InnerSink) QueryKind) → AreRead r → AreSaid 
 said_points (Ok ps) a = a
 said_points (Err kind) a = tt
 
-said_rule : (r : Result Rule QueryKind) → AreSaid (says RuleIs r)
-said_rule (Ok rule) = tt
-said_rule (Err kind) = tt
-
-said_source : (r : Result Choice QueryKind) → AreSaid (says Source r)
-said_source (Ok choice) = tt
-said_source (Err kind) = tt
-
-said_sink : (r : Result Choice QueryKind) → AreSaid (says Sink r)
-said_sink (Ok choice) = tt
-said_sink (Err kind) = tt
+-- what else is said has no points
+said_none : {X : Type 0} (make : X → Statement) → ((x : X) → AreSaid (Ok (Some (make x)))) → (r : Result X QueryKind) → AreSaid (says make r)
+said_none make none (Ok x) = none x
+said_none make none (Err kind) = tt
 
 in_sink : (operands : List (List ℕ)) → AreSaid (sink_of operands)
 in_sink [] = tt
@@ -104,14 +97,14 @@ in_sink (word ∷ more) = by (bytes_eq word (codes "mem")) (bytes_eq word (codes
   by : (b c : Bool) → AreSaid (if b then says Points (memory_of more) else if c then says Points (register_of more) else says Sink (choice_of (word ∷ more)))
   by true c = said_points (memory_of more) (of_memory more)
   by false true = said_points (register_of more) (of_register more)
-  by false false = said_sink (choice_of (word ∷ more))
+  by false false = said_none Sink (λ choice. tt) (choice_of (word ∷ more))
 
 in_statement : (ws : List (List ℕ)) → AreSaid (statement_of ws)
 in_statement [] = tt
 in_statement (keyword ∷ operands) = by (bytes_eq keyword (codes "rule")) (bytes_eq keyword (codes "source")) (bytes_eq keyword (codes "sink")) where
   by : (b c d : Bool) → AreSaid (if b then says RuleIs (rule_of operands) else if c then says Source (choice_of operands) else if d then sink_of operands else Err Word)
-  by true c d = said_rule (rule_of operands)
-  by false true d = said_source (choice_of operands)
+  by true c d = said_none RuleIs (λ rule. tt) (rule_of operands)
+  by false true d = said_none Source (λ choice. tt) (choice_of operands)
   by false false true = in_sink operands
   by false false false = tt
 
@@ -128,13 +121,9 @@ in_lines (l ∷ ls) = (in_line l, in_lines ls)
 
 -- ---- texts, and queries taken together
 
-all-append : (ps qs : List InnerSink) → AllByRecursion IsLocated ps → AllByRecursion IsLocated qs → AllByRecursion IsLocated (ps ++ qs)
-all-append [] qs a b = b
-all-append (p ∷ ps) qs a b = (a.0, all-append ps qs a.1 b)
-
 all-flat : {X : Type 0} (f : X → List InnerSink) (xs : List X) → AllByRecursion (λ x. AllByRecursion IsLocated (f x)) xs → AllByRecursion IsLocated (flat_map f xs)
 all-flat f [] a = tt
-all-flat f (x ∷ xs) a = all-append (f x) (flat_map f xs) a.0 (all-flat f xs a.1)
+all-flat f (x ∷ xs) a = all-append IsLocated (f x) (flat_map f xs) a.0 (all-flat f xs a.1)
 
 -- what the lines of a text choose, one after another
 pub lines_located : (text : List ℕ) → AreLocated (flat_map points_in (read_lines text))

@@ -50,10 +50,7 @@ module _ {X : Type 0} where
   pub some-append : (P : X → Type 0) (xs ys : List X) → Some_in P (xs ++ ys) → Some_in P xs ⊎ Some_in P ys
   some-append P [] ys h = inr h
   some-append P (x ∷ xs) ys (inl p) = inl (inl p)
-  some-append P (x ∷ xs) ys (inr h) = by (some-append P xs ys h) where
-    by : Some_in P xs ⊎ Some_in P ys → Some_in P (x ∷ xs) ⊎ Some_in P ys
-    by (inl a) = inl (inr a)
-    by (inr b) = inr b
+  some-append P (x ∷ xs) ys (inr h) = elim (some-append P xs ys h) [ inl a ↦ inl (inr a) | inr b ↦ inr b ]
 
   pub some-left : (P : X → Type 0) (xs ys : List X) → Some_in P xs → Some_in P (xs ++ ys)
   some-left P [] ys h = absurd h

@@ -1,5 +1,5 @@
 -- Worked examples of the steps that rows need, computed by the checker.
-use Rattle.std.proofs.Common.{◌≡◌, ℕ, List, [], ◌∷◌, refl}
+use Rattle.std.proofs.Common.{◌≡◌, ℕ, List, [], ◌∷◌, map, refl}
 use Rattle.std.specs.Prelude.{Option, Some, None}
 use Rattle.isa.specs.declared.Instr.TheVariants.{Ecall}
 use Rattle.isa.specs.declared.CallKind.TheVariants.{Read, Write}
@@ -33,24 +33,13 @@ point t = record { time = t; loc = Reg 5 0 }
 abbrev on_channel : ℕ → Choice
 on_channel c = record { channel = Some c; offsets = None }
 
-all_bytes : needed_steps (query_of (everything ∷ []) []) five_steps ≡ 2
-all_bytes = refl
+abbrev some_on_2 : ℕ → ℕ → Choice
+some_on_2 from past = record { channel = Some 2; offsets = Some (record { from = from; past = past }) }
 
-one_channel : needed_steps (query_of (on_channel 1 ∷ []) []) five_steps ≡ 1
-one_channel = refl
-
-second_byte : needed_steps (query_of (record { channel = Some 2; offsets = Some (record { from = 1; past = 2 }) } ∷ []) []) five_steps ≡ 2
-second_byte = refl
-
-no_such_byte : needed_steps (query_of (record { channel = Some 2; offsets = Some (record { from = 2; past = 9 }) } ∷ []) []) five_steps ≡ 0
-no_such_byte = refl
-
-nothing_chosen : needed_steps (query_of [] []) five_steps ≡ 0
-nothing_chosen = refl
+-- all bytes, one channel, a byte of it, no such byte, and nothing
+of_bytes : map (λ sinks. needed_steps (query_of sinks []) five_steps) ((everything ∷ []) ∷ (on_channel 1 ∷ []) ∷ (some_on_2 1 2 ∷ []) ∷ (some_on_2 2 9 ∷ []) ∷ [] ∷ []) ≡ 2 ∷ 1 ∷ 2 ∷ 0 ∷ 0 ∷ []
+of_bytes = refl
 
 -- the last point inside the run counts, and one after its end doesn't
-points_and_bytes : needed_steps (query_of (everything ∷ []) (point 1 ∷ point 4 ∷ point 6 ∷ [])) five_steps ≡ 4
-points_and_bytes = refl
-
-point_at_the_end : needed_steps (query_of [] (point 5 ∷ [])) five_steps ≡ 5
-point_at_the_end = refl
+of_points : (needed_steps (query_of (everything ∷ []) (point 1 ∷ point 4 ∷ point 6 ∷ [])) five_steps ≡ 4) × (needed_steps (query_of [] (point 5 ∷ [])) five_steps ≡ 5)
+of_points = (refl, refl)

@@ -3,6 +3,7 @@ use Rattle.std.proofs.Common.{◌≡◌, ℕ, ◌+◌, ◌==◌, List, [], ◌�
 use Rattle.std.specs.Prelude.{Option, Some, None, Ok, ◌||◌, ◌&&◌, Contains}
 use Rattle.std.specs.List.{filter, flat_map, list_any, AllByRecursion}
 use Rattle.std.specs.Ordering.{eq_by_cmp}
+use Rattle.std.proofs.lemmas.Bool.{or_left, or_right}
 use Rattle.std.proofs.lemmas.List.Concat.{flat_map-cons}
 use Rattle.std.proofs.lemmas.List.Elements.{filter-append, recursion_from_All, All-from_recursion, All-contains_itself}
 use Rattle.std.proofs.lemmas.List.Folds.{list_any-append}
@@ -143,13 +144,9 @@ only_is_own u q trace covers q_ascends u_ascends = rows_are_own u q covers q_asc
 any_flat : {X Y : Type 0} (t : Y → Bool) (f : X → List Y) (x : X) (xs : List X) → Some_in (λ y. y ≡ x) xs → list_any t (f x) ≡ true → list_any t (flat_map f xs) ≡ true
 any_flat t f x [] h e = absurd h
 any_flat {X} {Y} t f x (y ∷ ys) h e = ap (list_any t) (flat_map-cons f y ys) ∙ list_any-append t (f y) (flat_map f ys) ∙ by (any_flat t f x ys) h where
-  or_true : (b : Bool) → (b || true) ≡ true
-  or_true true = refl
-  or_true false = refl
-
   by : (Some_in (λ z. z ≡ x) ys → list_any t (f x) ≡ true → list_any t (flat_map f ys) ≡ true) → Some_in (λ z. z ≡ x) (y ∷ ys) → (list_any t (f y) || list_any t (flat_map f ys)) ≡ true
-  by rest (inl g) = ap (λ (b : Bool). b || list_any t (flat_map f ys)) (ap (λ (z : X). list_any t (f z)) g ∙ e)
-  by rest (inr g) = ap (λ (b : Bool). list_any t (f y) || b) (rest g e) ∙ or_true (list_any t (f y))
+  by rest (inl g) = or_left _ _ (ap (λ (z : X). list_any t (f z)) g ∙ e)
+  by rest (inr g) = or_right _ _ (rest g e)
 
 same_rule : (a b : Rule) → is_same_rule a b ≡ true → a ≡ b
 same_rule Copy Copy e = refl

@@ -3,7 +3,7 @@ use Rattle.std.proofs.Common.{◌≡◌, ℕ, nat_eq, ◌+◌, ◌==◌, ◌≤�
 use Rattle.std.specs.Prelude.{Some, None, Option, Contains}
 use Rattle.std.specs.List.{filter, range_with_len, AllByRecursion}
 use Rattle.std.specs.Ordering.{eq_by_cmp}
-use Rattle.std.proofs.lemmas.Bool.{eqb-true, eqb-false}
+use Rattle.std.proofs.lemmas.Bool.{eq-eqb, eqb-true, eqb-false}
 use Rattle.std.proofs.lemmas.List.Elements.{recursion_from_All, All-from_recursion, All-contains_itself}
 use Rattle.std.proofs.lemmas.List.Folds.{Any-from_list_any}
 use Rattle.isa.specs.declared.CallKind.{CallKind}
@@ -24,12 +24,6 @@ use Rattle.report_model.proofs.Each.{each-trivial}
 use Rattle.report_model.proofs.Members.{Some_in, some-Any, some-Contains, Contains-some, some-each, some-each-too, some-left, some-right, some-map, some-filter}
 use Rattle.report_model.proofs.RowLemmas.{row_total}
 
-is_same : (a b : ℕ) → a ≡ b → nat_eq a b ≡ true
-is_same a b e = by (nat_eq a b) refl where
-  by : (c : Bool) → nat_eq a b ≡ c → c ≡ true
-  by true f = refl
-  by false f = absurd (eqb-false a b f e)
-
 module _ (q : Query) (p : InnerSink) where
   -- ---- a point of the query has its turn
 
@@ -39,7 +33,7 @@ module _ (q : Query) (p : InnerSink) where
   turn_at : (t : ℕ) → Contains q.points p → p.time ≡ t → Some_in IsOfPoint (points_at q t)
   unfolding IsOfPoint
   turn_at t c e =
-      let now : (x : InnerSink) → x ≡ p → ((x.time == t) ≡ true) × (point_sink x ≡ point_sink p) = λ (x : InnerSink) f. (ap (λ (y : InnerSink). y.time == t) f ∙ is_same p.time t e, ap point_sink f) in
+      let now : (x : InnerSink) → x ≡ p → ((x.time == t) ≡ true) × (point_sink x ≡ point_sink p) = λ (x : InnerSink) f. (ap (λ (y : InnerSink). y.time == t) f ∙ eq-eqb p.time t e, ap point_sink f) in
       let there = some-each _ (λ (x : InnerSink). ((x.time == t) ≡ true) × (point_sink x ≡ point_sink p)) now q.points (some-Contains q.points p c) in
       some-map (λ (x : Sink). x ≡ point_sink p) point_sink (filter (λ x. x.time == t) q.points) (some-filter (λ (x : InnerSink). point_sink x ≡ point_sink p) (λ x. x.time == t) q.points there)
 

@@ -90,12 +90,6 @@ of_written q trace r b written c =
       chosen : (s : Sink) → Contains (origins (policy_of q) trace s.time s.loc) b → Contains (chosen_sources q trace) b
       chosen s c = was_chosen q trace s.time b (All-contains (WasRead (policy_of q) trace s.time) (origins (policy_of q) trace s.time s.loc) b (origins_were_read (policy_of q) trace s.time s.loc) c)
 
--- each source byte of a row was received, and the query chooses it
-pub source-chosen : (q : Query) (trace : List StepSeen) (r : Row) (b : SourceByte) → Contains (rows q trace) r → Contains r.sources b → Contains (chosen_sources q trace) b
-source-chosen q trace r b there listed =
-    let written = All-contains (λ (x : Row). Contains (rows_as_written q trace) x × (has_sink q x.sink ≡ true)) (rows q trace) r (all_written q trace) there in
-    of_written q trace r b written.0 listed
-
 -- ---- the law
 
 from_influence : (q : Query) (trace : List StepSeen) (s : SinkPoint) (b : SourceByte) → HasReached b s (influence q trace) → IsListed s b (rows q trace)

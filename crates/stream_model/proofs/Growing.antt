@@ -3,10 +3,10 @@ use Rattle.std.proofs.Common.{◌≡◌, List, [], ◌∷◌, ◌++◌, map, ref
 use Rattle.std.specs.List.{list_all, flat_map, AllByRecursion}
 use Rattle.std.proofs.lemmas.List.{map-append}
 use Rattle.std.proofs.lemmas.List.Concat.{flat_map-append}
-use Rattle.std.proofs.lemmas.Bool.{and_parts, and_from, or_right}
+use Rattle.std.proofs.lemmas.Bool.{and_parts, and_from, or_right, or_left}
+use Rattle.std.specs.Ordering.{eq_by_cmp}
 use Rattle.flow_model.specs.declared.Loc.{Loc}
 use Rattle.flow_model.specs.declared.SourceByte.{SourceByte}
-use Rattle.std.specs.Ordering.{eq_by_cmp}
 use Rattle.lists.specs.Sets.{inserted, union, has, Ascends}
 use Rattle.flow_model.specs.Orders.{loc_cmp, source_cmp}
 use Rattle.flow_model.specs.Origins.{union_over}
@@ -15,11 +15,11 @@ use Rattle.flow_model.specs.declared.Message.TheVariants.{Ask, Byte, Close, End}
 use Rattle.epoch_model.specs.Summary.{Summary, Terms}
 use Rattle.epoch_model.specs.Crossing.{added, added_all, wanted, asked_by}
 use Rattle.epoch_model.specs.Join.{answer_to, resolved}
-use Rattle.stream_model.specs.Streams.{is_ended, requests, answers_in, heard, is_answered, is_resolvable, end_if, asks_for, answer, then_if, answers_for}
-use Rattle.stream_model.specs.StreamLaws.{IsPrefix, AsksGrow, AnswersGrow, EndsLast, NothingIsLeft, AsksEndLast, AnswersEndLast, HeardAscends}
 use Rattle.lists.proofs.Algebra.{Ascends-inserted}
 use Rattle.flow_model.proofs.Orders.{source_total}
 use Rattle.epoch_model.proofs.Adding.{union_over_same, added_all-append, Ascends-answer}
+use Rattle.stream_model.specs.Streams.{is_ended, requests, answers_in, heard, is_answered, is_resolvable, end_if, asks_for, answer, then_if, answers_for}
+use Rattle.stream_model.specs.StreamLaws.{IsPrefix, AsksGrow, AnswersGrow, EndsLast, NothingIsLeft, AsksEndLast, AnswersEndLast, HeardAscends}
 
 -- ---- prefixes
 
@@ -31,12 +31,15 @@ prefix_trans xs ys zs p q = (p.0 ++ q.0, sym (append_assoc xs p.0 q.0) ∙ ap (�
 
 -- ---- what was got, and more
 
+pub ended_append : (got more : List Message) → is_ended (got ++ more) ≡ (is_ended got || is_ended more)
+ended_append [] more = refl
+ended_append (Ask l ∷ ms) more = ended_append ms more
+ended_append (Byte b ∷ ms) more = ended_append ms more
+ended_append (Close l ∷ ms) more = ended_append ms more
+ended_append (End whole ∷ ms) more = refl
+
 pub ended_stays : (got more : List Message) → is_ended got ≡ true → is_ended (got ++ more) ≡ true
-ended_stays [] more e = cc
-ended_stays (Ask l ∷ ms) more e = ended_stays ms more e
-ended_stays (Byte b ∷ ms) more e = ended_stays ms more e
-ended_stays (Close l ∷ ms) more e = ended_stays ms more e
-ended_stays (End whole ∷ ms) more e = refl
+ended_stays got more e = ended_append got more ∙ or_left (is_ended got) (is_ended more) e
 
 requests_stay : (got more : List Message) → is_ended got ≡ true → requests got ≡ requests (got ++ more)
 requests_stay [] more e = cc

@@ -1,6 +1,7 @@
 pub mod Growing
 pub mod Counting
 pub mod Meeting
+mod Events
 pub mod Passing
 pub mod Moving
 mod Holding

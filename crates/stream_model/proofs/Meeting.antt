@@ -1,5 +1,6 @@
 -- Nodes in a row that are done have the rows of the whole trace. Crates above cite these lemmas.
 use Rattle.std.proofs.Common.{◌≡◌, ℕ, zero, suc, ◌+◌, ◌-◌, ◌<◌, ◌≤◌, List, [], ◌∷◌, ◌++◌, map, length, refl, ap, ap₂, sym, subst, ◌∙◌, Bool, true, false, ◌||◌, cond, append-nil, append_assoc, arith}
+use Rattle.std.proofs.lemmas.Bool.{or_right}
 use Rattle.std.specs.Prelude.{All}
 use Rattle.std.specs.List.{flat_map, list_all, AllByRecursion}
 use Rattle.std.specs.Cmp.{IsTotalOrder}
@@ -27,11 +28,12 @@ use Rattle.epoch_model.specs.Stretch.{points_at_start, sinks_between, sinks_of_e
 use Rattle.epoch_model.specs.Cutting.{RisesTo, IsCutting}
 use Rattle.epoch_model.specs.Summary.{Summary, IsSummary, AreSummaries}
 use Rattle.epoch_model.specs.Crossing.{asked_by, crossing}
-use Rattle.epoch_model.specs.Join.{answer_to, resolved, rows_of}
+use Rattle.epoch_model.specs.Join.{answer_to, resolved}
 use Rattle.epoch_model.proofs.Sinks.{sinks-all, sinks-later, sinks-split}
 use Rattle.epoch_model.proofs.Asking.{rises_up, located-crossing, asks_what_is_needed, asks_by_cuts, asks_once}
 use Rattle.epoch_model.proofs.Joining.{epoch_known, wanted_known}
-use Rattle.stream_model.specs.Streams.{is_ended, requests, answers_in, heard, is_answered, end_if, asks_for, answer, then_if, answers_for, Node, asked_of, AreDone, summaries}
+use Rattle.stream_model.proofs.Growing.{ended_append}
+use Rattle.stream_model.specs.Streams.{is_ended, requests, answers_in, heard, is_answered, end_if, asks_for, answer, then_if, answers_for, Node, AreDone, summaries, IsDone}
 use Rattle.stream_model.specs.StreamLaws.{answers_to, LinksCarry, HaveRows, DoneNodesMeet}
 
 -- ---- ascending lists
@@ -59,11 +61,7 @@ module _ {X : Type 0} {R : X → X → Ordering} (o : IsTotalOrder R) where
 -- ---- whole streams
 
 ended : (ms : List Message) → is_ended (ms ++ End true ∷ []) ≡ true
-ended [] = refl
-ended (Ask l ∷ ms) = ended ms
-ended (Byte b ∷ ms) = ended ms
-ended (Close l ∷ ms) = ended ms
-ended (End whole ∷ ms) = refl
+ended ms = ended_append ms (End true ∷ []) ∙ or_right (is_ended ms) true refl
 
 pub asks_back : (ls : List Loc) → requests (map Ask ls ++ End true ∷ []) ≡ ls
 asks_back [] = refl
@@ -124,22 +122,14 @@ same_answers f g ls e = ap (λ (ms : List Message). ms ++ End true ∷ []) (by l
 
 -- ---- asks, from the last node to the first
 
-asked_done : (first : Bool) (a : Node) (ns : List Node) → AreDone first (a ∷ ns) → a.asked ≡ asked_of first a.summary (requests a.asks_got)
-asked_done first a [] h = h.0.asked
-asked_done first a (b ∷ ns) h = h.0.asked
-
-rows_done : (first : Bool) (a : Node) (ns : List Node) → AreDone first (a ∷ ns) → a.rows ≡ rows_of a.summary (heard a.asked a.answers_got)
-rows_done first a [] h = h.0.rows
-rows_done first a (b ∷ ns) h = h.0.rows
-
-asks_done : (a : Node) (ns : List Node) → AreDone false (a ∷ ns) → a.asks_sent ≡ asks_for a.summary a.asks_got
-asks_done a [] h = h.0.asks refl
-asks_done a (b ∷ ns) h = h.0.asks refl
+first_done : (first : Bool) (a : Node) (ns : List Node) → AreDone first (a ∷ ns) → (last : Bool) × IsDone first last a
+first_done first a [] h = (true, h.0)
+first_done first a (b ∷ ns) h = (false, h.0)
 
 asks_are : (first : Bool) (a : Node) (ns : List Node) → AreDone first (a ∷ ns) → a.asks_got ≡ map Ask (crossing (summaries ns)) ++ End true ∷ []
 asks_are first a [] h = h.1
 asks_are first a (b ∷ ns) h =
-    h.1 ∙ asks_done b ns h.3 ∙ ap (asks_for b.summary) (asks_are false b ns h.3) ∙ whole_asks b.summary (crossing (summaries ns))
+    h.1 ∙ (first_done false b ns h.3).1.asks refl ∙ ap (asks_for b.summary) (asks_are false b ns h.3) ∙ whole_asks b.summary (crossing (summaries ns))
 
 requests_are : (first : Bool) (a : Node) (ns : List Node) → AreDone first (a ∷ ns) → requests a.asks_got ≡ crossing (summaries ns)
 requests_are first a ns h = ap requests (asks_are first a ns h) ∙ asks_back (crossing (summaries ns))
@@ -168,7 +158,7 @@ module _ (q : Query) (trace : List StepSeen) (steps : All IsInRange trace) (poin
   known_last s c first a low end i d k =
       let before = heard a.asked a.answers_got in
       let here = epoch_known q trace s before c a.summary i low on_points [] tt (wanted_known (policy_of q) trace s before a.summary [] k) in
-      let rows = rows_done first a [] d ∙ here.0 in
+      let rows = (first_done first a [] d).1.rows ∙ here.0 in
       record {
         links = tt;
         each = (rows, tt);
@@ -196,8 +186,8 @@ module _ (q : Query) (trace : List StepSeen) (steps : All IsInRange trace) (poin
       let before = heard a.asked a.answers_got in
       let high = rises_up c (x ∷ cs) (length trace) h in
       let here = epoch_known q trace s before c a.summary i.0 low on_points asks (located c (x ∷ cs) (summaries (b ∷ ns)) i.1) (wanted_known policy trace s before a.summary (summaries (b ∷ ns)) k) in
-      let rows = rows_done first a (b ∷ ns) d ∙ here.0 in
-      let asked : b.asked ≡ asks = asked_done false b ns d.3 ∙ ap (asked_by b.summary) (requests_are false b ns d.3) in
+      let rows = (first_done first a (b ∷ ns) d).1.rows ∙ here.0 in
+      let asked : b.asked ≡ asks = (first_done false b ns d.3).1.asked ∙ ap (asked_by b.summary) (requests_are false b ns d.3) in
       let carried : b.answers_got ≡ answers_to (origins policy trace c) asks =
       d.2 ∙ d.0.answers refl
       ∙ ap (λ (ls : List Loc). answers_for a.summary a.asked ls a.answers_got) (requests_are first a (b ∷ ns) d)
@@ -235,14 +225,15 @@ module _ (q : Query) (trace : List StepSeen) (steps : All IsInRange trace) (poin
   known_all (suc n) is (c ∷ cs) a ns h i d e k =
       known 0 c cs true a ns (omega (arith, h.0)) (omega arith) (subst (RisesTo c cs) is h.1) i d e k
 
+pub no_cuts : (n : ℕ) → IsCutting n [] → ⊥
+no_cuts zero h = cc
+no_cuts (suc n) h = omega (arith, h)
+
 pub done_nodes_meet : DoneNodesMeet
-done_nodes_meet q trace [] [] steps points h a d = absurd (none (length trace) h) where
-  none : (n : ℕ) → IsCutting n [] → ⊥
-  none zero h = cc
-  none (suc n) h = omega (arith, h)
+done_nodes_meet q trace [] [] steps points h a d = absurd (no_cuts (length trace) h)
 done_nodes_meet q trace (c ∷ cs) [] steps points h a d = absurd a
 done_nodes_meet q trace cuts (n ∷ ns) steps points h a d =
-    let nothing : n.asked ≡ [] = asked_done true n ns d.1 in
+    let nothing : n.asked ≡ [] = (first_done true n ns d.1).1.asked in
     let all = known_all q trace steps points (length trace) refl cuts n ns h a d.1 (ap is_ended d.0)
     (λ l has. ap (λ (ls : List Loc). heard ls n.answers_got l) nothing) in
     let whole : length trace - 0 ≡ length trace = omega arith in

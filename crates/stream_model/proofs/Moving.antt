@@ -1,38 +1,32 @@
 -- What events change, and what they keep between neighbours.
-use Rattle.std.proofs.Common.{◌≡◌, ◌⊎◌, inl, inr, ℕ, zero, suc, List, [], ◌∷◌, ◌++◌, length, drop, refl, ap, sym, subst, ◌∙◌, Bool, true, false, append_assoc}
+use Rattle.std.proofs.Common.{◌≡◌, ◌⊎◌, inl, inr, ℕ, zero, suc, List, [], ◌∷◌, ◌++◌, ◌||◌, length, drop, refl, ap, sym, subst, ◌∙◌, Bool, true, false, append_assoc}
+use Rattle.std.proofs.lemmas.Bool.{or_parts}
 use Rattle.std.specs.Prelude.{Option, Some, None, is_none}
 use Rattle.lists.proofs.Tests.{true-false}
 use Rattle.flow_model.specs.declared.Loc.{Loc}
 use Rattle.flow_model.specs.declared.SourceByte.{SourceByte}
 use Rattle.flow_model.specs.declared.Message.{Message}
-use Rattle.flow_model.specs.declared.Message.TheVariants.{Ask, Byte, Close, End}
-use Rattle.report_model.specs.Rows.{Row}
-use Rattle.epoch_model.specs.Summary.{Summary, SinkTerms}
+use Rattle.flow_model.specs.declared.Message.TheVariants.{Ask, End}
+use Rattle.epoch_model.specs.Summary.{Summary}
 use Rattle.epoch_model.specs.Join.{resolved}
-use Rattle.stream_model.specs.Streams.{is_ended, heard, is_resolvable, answer}
+use Rattle.stream_model.specs.Streams.{is_ended, heard, answer}
 use Rattle.stream_model.specs.StreamLaws.{IsPrefix}
-use Rattle.stream_model.specs.Passes.{Links, Asking, Answering, push_ask, walk, pop_ask, drop_ask, end_asks, broken_asking, whole_asking, asking_by, asking_event, push_answer, pop_answer, build, build_or_pop, resolve, drop_answer, end_answers, resolve_or_end, pop_or_end, broken_answering, whole_answering, answering_by, answering_event}
+use Rattle.stream_model.specs.Passes.{Links, Asking, Answering, asking_event, answering_event}
 use Rattle.stream_model.specs.Schedules.{Phase, Fresh, Asks, Answers, NodeState, Event, asks_sent_in, asks_got_in, answers_sent_in, answers_got_in, first_of, next_item, asking_links, answering_links, begun, settled_by, node_event, phase_of_first, event_at, nodes_start, nodes_after}
-use Rattle.stream_model.proofs.Growing.{prefix_same, prefix_trans, ended_stays}
+use Rattle.stream_model.proofs.Events.{AskEvent, AsksNothing, PushesAsk, WalksSink, TakesAsk, DropsAsk, EndsAsks, ask_event, AnswerEvent, AnswersNothing, PushesAnswer, TakesAnswer, BuildsAnswer, ResolvesRows, DropsAnswer, EndsAnswers, answer_event}
+use Rattle.stream_model.proofs.Growing.{prefix_same, prefix_trans, ended_stays, ended_append}
 
 -- ---- Ends in lists
 
 pub ended_after : (xs ys : List Message) → is_ended xs ≡ false → is_ended (xs ++ ys) ≡ is_ended ys
-ended_after [] ys h = refl
-ended_after (Ask l ∷ xs) ys h = ended_after xs ys h
-ended_after (Byte b ∷ xs) ys h = ended_after xs ys h
-ended_after (Close l ∷ xs) ys h = ended_after xs ys h
-ended_after (End whole ∷ xs) ys h = true-false h
+ended_after xs ys h = ended_append xs ys ∙ ap (λ (b : Bool). b || is_ended ys) h
 
 no_end : (l : Loc) (set : List SourceByte) → is_ended (answer l set) ≡ false
 no_end l [] = refl
 no_end l (b ∷ bs) = no_end l bs
 
 apart : (m : Message) (ms : List Message) → is_ended (m ∷ ms) ≡ false → (is_ended (m ∷ []) ≡ false) × (is_ended ms ≡ false)
-apart (Ask l) ms n = (refl, n)
-apart (Byte b) ms n = (refl, n)
-apart (Close l) ms n = (refl, n)
-apart (End whole) ms n = true-false n
+apart m ms n = or_parts (is_ended (m ∷ [])) (is_ended ms) (sym (ended_append (m ∷ []) ms) ∙ n)
 
 -- ---- what an event sends and gets
 
@@ -77,72 +71,21 @@ pub record AskMoved (links : Links) (a b : Asking) : Type 0 where
   pub running : b.is_over ≡ false → is_ended b.sent ≡ false
   pub over : b.is_over ≡ true → (is_ended b.sent ≡ true) × (is_ended b.got ≡ true)
 
-module _ (first : Bool) (e : Summary) (links : Links) (a : Asking) (o : a.is_over ≡ false) (r : is_ended a.sent ≡ false) where
-  -- nothing sent or got
-  ask_within : (b : Asking) → b.sent ≡ a.sent → b.got ≡ a.got → b.is_over ≡ a.is_over → AskMoved links a b
-  ask_within b s g v = record {
-    sent = inl s;
-    got = inl g;
-    running = λ _. ap is_ended s ∙ r;
-    over = λ t. true-false (sym t ∙ v ∙ o);
-  }
+pub asking_moves : (first : Bool) (e : Summary) (links : Links) (a : Asking) → a.is_over ≡ false → is_ended a.sent ≡ false → AskMoved links a (asking_event first e links a)
+asking_moves first e links a o r = by (ask_event first e links a) where
+  -- no End is sent
+  ask_within : (b : Asking) → b.sent ≡ a.sent → IsGot links.item a.got b.got → b.is_over ≡ a.is_over → AskMoved links a b
+  ask_within b s g v = record { sent = inl s; got = g; running = λ _. ap is_ended s ∙ r; over = λ t. true-false (sym t ∙ v ∙ o) }
 
-  ask_got : (m : Message) (b : Asking) → links.item ≡ Some m → b.sent ≡ a.sent → b.got ≡ a.got ++ m ∷ [] → b.is_over ≡ a.is_over → AskMoved links a b
-  ask_got m b n s g v = record {
-    sent = inl s;
-    got = inr (m, n, g);
-    running = λ _. ap is_ended s ∙ r;
-    over = λ t. true-false (sym t ∙ v ∙ o);
-  }
-
-  ask_pushed : (room : Bool) → links.has_room ≡ room → (l : Loc) → AskMoved links a (push_ask room a l)
-  ask_pushed false n l = ask_within a refl refl refl
-  ask_pushed true n l = record {
-    sent = inr (Ask l, n, refl);
-    got = inl refl;
-    running = λ _. ended_after a.sent (Ask l ∷ []) r;
-    over = λ t. true-false (sym t ∙ o);
-  }
-
-  ask_walked : (refused : Bool) (k : SinkTerms) (left : List SinkTerms) → AskMoved links a (walk refused first a k left)
-  ask_walked true k left = ask_within _ refl refl refl
-  ask_walked false k left = ask_within _ refl refl refl
-
-  ask_popped : (refused : Bool) (next : Option Message) → links.item ≡ next → AskMoved links a (pop_ask refused first e a next)
-  ask_popped refused None n = ask_within a refl refl refl
-  ask_popped true (Some m) n = ask_got m _ n refl refl refl
-  ask_popped false (Some m) n = ask_got m _ n refl refl refl
-
-  ask_dropped : (next : Option Message) → links.item ≡ next → AskMoved links a (drop_ask a next)
-  ask_dropped None n = ask_within a refl refl refl
-  ask_dropped (Some m) n = ask_got m _ n refl refl refl
-
-  ask_ended : (room : Bool) → links.has_room ≡ room → is_ended a.got ≡ true → AskMoved links a (end_asks room a)
-  ask_ended false n d = ask_within a refl refl refl
-  ask_ended true n d = record {
-    sent = inr (End a.is_whole, n, refl);
-    got = inl refl;
-    running = λ f. true-false f;
-    over = λ _. (ended_after a.sent (End a.is_whole ∷ []) r, d);
-  }
-
-  ask_whole : (waiting : List Loc) (left : List SinkTerms) (ended : Bool) → is_ended a.got ≡ ended → AskMoved links a (whole_asking first e links a waiting left ended)
-  ask_whole (l ∷ waiting) left ended d = ask_pushed links.has_room refl l
-  ask_whole [] (k ∷ left) ended d = ask_walked links.is_refused k left
-  ask_whole [] [] false d = ask_popped links.is_refused links.item refl
-  ask_whole [] [] true d = ask_ended links.has_room refl d
-
-  ask_broken : (ended : Bool) → is_ended a.got ≡ ended → AskMoved links a (broken_asking links a ended)
-  ask_broken false d = ask_dropped links.item refl
-  ask_broken true d = ask_ended links.has_room refl d
-
-  ask_by : (over whole : Bool) → AskMoved links a (asking_by first e links a over whole)
-  ask_by true whole = ask_within a refl refl refl
-  ask_by false true = ask_whole (drop a.pushed a.asked) a.left (is_ended a.got) refl
-  ask_by false false = ask_broken (is_ended a.got) refl
-
-  pub asking_moves : AskMoved links a (asking_event first e links a)
-  asking_moves = ask_by a.is_over a.is_whole
+  by : {b : Asking} {moves : Bool} → AskEvent first e links a b moves → AskMoved links a b
+  by AsksNothing = ask_within a refl (inl refl) refl
+  by (PushesAsk l waiting o w d n) = record { sent = inr (Ask l, n, refl); got = inl refl; running = λ _. ended_after a.sent (Ask l ∷ []) r; over = λ t. true-false (sym t ∙ o) }
+  by (WalksSink true k left o w s) = ask_within _ refl (inl refl) refl
+  by (WalksSink false k left o w s) = ask_within _ refl (inl refl) refl
+  by (TakesAsk true m o w l n i) = ask_within _ refl (inr (m, i, refl)) refl
+  by (TakesAsk false m o w l n i) = ask_within _ refl (inr (m, i, refl)) refl
+  by (DropsAsk m o w i) = ask_within _ refl (inr (m, i, refl)) refl
+  by (EndsAsks o d w n) = record { sent = inr (End a.is_whole, n, refl); got = inl refl; running = true-false; over = λ _. (ended_after a.sent (End a.is_whole ∷ []) r, d) }
 
 -- ---- answering
 
@@ -155,90 +98,33 @@ pub record AnswerMoved (links : Links) (f g : Answering) : Type 0 where
   pub got : IsGot links.item f.got g.got
   pub fits : AnswerFits g
 
-module _ (e : Summary) (asked : List Loc) (links : Links) (f : Answering) (h : AnswerFits f) where
-  answer_within : AnswerMoved links f f
-  answer_within = record { sent = inl refl; got = inl refl; fits = h }
+pub answering_moves : (e : Summary) (asked : List Loc) (links : Links) (f : Answering) → AnswerFits f → AnswerMoved links f (answering_event e asked links f)
+answering_moves e asked links f h = by (answer_event e asked links f) where
+  -- no message is sent
+  answer_within : f.is_over ≡ false → (g : Answering) → g.sent ≡ f.sent → IsGot links.item f.got g.got → is_ended g.sending ≡ false → g.is_over ≡ f.is_over → AnswerMoved links f g
+  answer_within o g s t n v = record { sent = inl s; got = t; fits = record { running = λ _. (ap is_ended s ∙ (h.running o).0, n); over = λ u. true-false (sym u ∙ v ∙ o) } }
 
-  module _ (o : f.is_over ≡ false) where
-    -- nothing sent or got
-    answer_kept : (g : Answering) → g.sent ≡ f.sent → g.got ≡ f.got → is_ended g.sending ≡ false → g.is_over ≡ f.is_over → AnswerMoved links f g
-    answer_kept g s t n v = record {
-      sent = inl s;
-      got = inl t;
-      fits = record { running = λ _. (ap is_ended s ∙ (h.running o).0, n); over = λ u. true-false (sym u ∙ v ∙ o) };
-    }
-
-    answer_got : (m : Message) (g : Answering) → links.item ≡ Some m → g.sent ≡ f.sent → g.got ≡ f.got ++ m ∷ [] → g.sending ≡ f.sending → g.is_over ≡ f.is_over → AnswerMoved links f g
-    answer_got m g n s t k v = record {
-      sent = inl s;
-      got = inr (m, n, t);
-      fits = record { running = λ _. (ap is_ended s ∙ (h.running o).0, ap is_ended k ∙ (h.running o).1); over = λ u. true-false (sym u ∙ v ∙ o) };
-    }
-
-    answer_pushed : (room : Bool) → links.has_room ≡ room → (m : Message) (sending : List Message) → f.sending ≡ m ∷ sending → AnswerMoved links f (push_answer room f m sending)
-    answer_pushed false n m sending k = answer_within
-    answer_pushed true n m sending k =
-        let none : is_ended (m ∷ sending) ≡ false = ap is_ended (sym k) ∙ (h.running o).1 in
-        let parts = apart m sending none in
-        record {
-          sent = inr (m, n, refl);
-          got = inl refl;
-          fits = record { running = λ _. (ended_after f.sent (m ∷ []) (h.running o).0 ∙ parts.0, parts.1); over = λ u. true-false (sym u ∙ o) };
-        }
-
-    answer_popped : (refused : Bool) (next : Option Message) → links.item ≡ next → AnswerMoved links f (pop_answer refused f next)
-    answer_popped refused None n = answer_within
-    answer_popped true (Some m) n = answer_got m _ n refl refl refl refl
-    answer_popped false (Some m) n = answer_got m _ n refl refl refl refl
-
-    answer_dropped : (next : Option Message) → links.item ≡ next → AnswerMoved links f (drop_answer f next)
-    answer_dropped None n = answer_within
-    answer_dropped (Some m) n = answer_got m _ n refl refl refl refl
-
-    answer_built : (refused : Bool) (l : Loc) (left : List Loc) → AnswerMoved links f (build refused e asked f l left)
-    answer_built true l left = answer_kept _ refl refl (h.running o).1 refl
-    answer_built false l left = answer_kept _ refl refl (no_end l (resolved (heard asked f.got) (e.ends l))) refl
-
-    answer_request : (b : Bool) (l : Loc) (left : List Loc) → AnswerMoved links f (build_or_pop b e asked links f l left)
-    answer_request true l left = answer_built links.is_refused l left
-    answer_request false l left = answer_popped links.is_refused links.item refl
-
-    answer_resolved : (refused : Bool) → AnswerMoved links f (resolve refused e asked f)
-    answer_resolved true = answer_kept _ refl refl (h.running o).1 refl
-    answer_resolved false = answer_kept _ refl refl (h.running o).1 refl
-
-    answer_ended : (room : Bool) → links.has_room ≡ room → is_ended f.got ≡ true → AnswerMoved links f (end_answers room f)
-    answer_ended false n d = answer_within
-    answer_ended true n d = record {
-      sent = inr (End f.is_whole, n, refl);
-      got = inl refl;
-      fits = record { running = λ t. true-false t; over = λ _. (ended_after f.sent (End f.is_whole ∷ []) (h.running o).0, d) };
-    }
-
-    answer_rows : (rows : Option (List Row)) → is_ended f.got ≡ true → AnswerMoved links f (resolve_or_end e asked links f rows)
-    answer_rows None d = answer_resolved links.is_refused
-    answer_rows (Some rows) d = answer_ended links.has_room refl d
-
-    answer_last : (ended : Bool) → is_ended f.got ≡ ended → AnswerMoved links f (pop_or_end e asked links f ended)
-    answer_last false d = answer_popped links.is_refused links.item refl
-    answer_last true d = answer_rows f.rows d
-
-    answer_whole : (sending : List Message) → f.sending ≡ sending → (left : List Loc) → AnswerMoved links f (whole_answering e asked links f sending left)
-    answer_whole (m ∷ sending) k left = answer_pushed links.has_room refl m sending k
-    answer_whole [] k (l ∷ left) = answer_request (is_resolvable asked f.got (e.ends l)) l left
-    answer_whole [] k [] = answer_last (is_ended f.got) refl
-
-    answer_broken : (ended : Bool) → is_ended f.got ≡ ended → AnswerMoved links f (broken_answering links f ended)
-    answer_broken false d = answer_dropped links.item refl
-    answer_broken true d = answer_ended links.has_room refl d
-
-  answer_by : (over : Bool) → f.is_over ≡ over → (whole : Bool) → AnswerMoved links f (answering_by e asked links f over whole)
-  answer_by true o whole = answer_within
-  answer_by false o true = answer_whole o f.sending refl f.left
-  answer_by false o false = answer_broken o (is_ended f.got) refl
-
-  pub answering_moves : AnswerMoved links f (answering_event e asked links f)
-  answering_moves = answer_by f.is_over refl f.is_whole
+  by : {g : Answering} {moves : Bool} → AnswerEvent e asked links f g moves → AnswerMoved links f g
+  by AnswersNothing = record { sent = inl refl; got = inl refl; fits = h }
+  by (PushesAnswer m sending o w s r) =
+      let parts = apart m sending (ap is_ended (sym s) ∙ (h.running o).1) in
+      record {
+        sent = inr (m, r, refl);
+        got = inl refl;
+        fits = record { running = λ _. (ended_after f.sent (m ∷ []) (h.running o).0 ∙ parts.0, parts.1); over = λ u. true-false (sym u ∙ o) };
+      }
+  by (TakesAnswer true m o w n i) = answer_within o _ refl (inr (m, i, refl)) (h.running o).1 refl
+  by (TakesAnswer false m o w n i) = answer_within o _ refl (inr (m, i, refl)) (h.running o).1 refl
+  by (BuildsAnswer true l left o w s k r) = answer_within o _ refl (inl refl) (h.running o).1 refl
+  by (BuildsAnswer false l left o w s k r) = answer_within o _ refl (inl refl) (no_end l (resolved (heard asked f.got) (e.ends l))) refl
+  by (ResolvesRows true o w r n) = answer_within o _ refl (inl refl) (h.running o).1 refl
+  by (ResolvesRows false o w r n) = answer_within o _ refl (inl refl) (h.running o).1 refl
+  by (DropsAnswer m o w i) = answer_within o _ refl (inr (m, i, refl)) (h.running o).1 refl
+  by (EndsAnswers o d w r) = record {
+    sent = inr (End f.is_whole, r, refl);
+    got = inl refl;
+    fits = record { running = true-false; over = λ _. (ended_after f.sent (End f.is_whole ∷ []) (h.running o).0, d) };
+  }
 
 -- ---- what holds of a node and between neighbours
 

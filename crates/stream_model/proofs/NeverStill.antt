@@ -11,9 +11,10 @@ use Rattle.report_model.specs.Rows.{Row}
 use Rattle.epoch_model.specs.Summary.{Summary, SinkTerms}
 use Rattle.stream_model.specs.Streams.{is_ended, is_resolvable}
 use Rattle.stream_model.specs.StreamLaws.{IsPrefix}
-use Rattle.stream_model.specs.Passes.{Links, Asking, push_ask, pop_ask, drop_ask, end_asks, broken_asking, whole_asking, asking_by, Answering, push_answer, pop_answer, build_or_pop, drop_answer, end_answers, resolve_or_end, pop_or_end, broken_answering, whole_answering, answering_by}
+use Rattle.stream_model.specs.Passes.{Links, Asking, Answering}
 use Rattle.stream_model.specs.Schedules.{Phase, Fresh, Asks, Answers, NodeState, asks_sent_in, asks_got_in, answers_sent_in, answers_got_in, first_of, next_item, has_room_for, room_to, item_from, asking_links, answering_links, nodes_start, Need, is_met, item_or_room, whole_asking_need, asking_need_by, asking_need, nothing_or_room, last_need, nothing_or_item, whole_answering_need, answering_need_by, answering_need, node_moves, moves_at, is_done}
 use Rattle.stream_model.specs.ScheduleLaws.{NeverStill, StillAsking, StillAnswering}
+use Rattle.stream_model.proofs.Events.{AskEvent, AsksNothing, PushesAsk, WalksSink, TakesAsk, DropsAsk, EndsAsks, ask_event, AnswerEvent, AnswersNothing, PushesAnswer, TakesAnswer, BuildsAnswer, ResolvesRows, DropsAnswer, EndsAnswers, answer_event}
 use Rattle.stream_model.proofs.Growing.{ended_stays}
 use Rattle.stream_model.proofs.Moving.{PhaseHolds, LinkHolds, PreviousHolds, NextHolds, NodesHold, drop_front, reached, started}
 
@@ -47,7 +48,7 @@ module _ (got sent : List Message) (p : IsPrefix got sent) where
 
 -- ---- an event moves, or a full link stops it
 
-abbrev Goes : Need → Links → Type 0
+abbrev pub Goes : Need → Links → Type 0
 Goes need links = (is_met need links ≡ true) ⊎ (links.has_room ≡ false)
 
 either_way : (b : Bool) → (b ≡ true) ⊎ (b ≡ false)
@@ -64,14 +65,14 @@ module _ (links : Links) where
   asking_whole_goes [] (k ∷ left) ended n = inl refl
   asking_whole_goes [] [] ended n = item_goes ended n
 
-  asking_goes : (a : Asking) → a.is_over ≡ false → (is_ended a.got ≡ false → is_some links.item ≡ true) → Goes (asking_need a) links
+  pub asking_goes : (a : Asking) → a.is_over ≡ false → (is_ended a.got ≡ false → is_some links.item ≡ true) → Goes (asking_need a) links
   asking_goes a o n = by a.is_over o a.is_whole where
     by : (over : Bool) → over ≡ false → (whole : Bool) → Goes (asking_need_by a over whole) links
     by true o whole = true-false o
     by false o true = asking_whole_goes (drop a.pushed a.asked) a.left (is_ended a.got) n
     by false o false = item_goes (is_ended a.got) n
 
-  answering_goes : (e : Summary) (asked : List Loc) (f : Answering) → f.is_over ≡ false → (is_ended f.got ≡ false → is_some links.item ≡ true) → Goes (answering_need e asked f) links
+  pub answering_goes : (e : Summary) (asked : List Loc) (f : Answering) → f.is_over ≡ false → (is_ended f.got ≡ false → is_some links.item ≡ true) → Goes (answering_need e asked f) links
   answering_goes e asked f o n = by f.is_over o f.is_whole where
     rows : (r : Option (List Row)) → Goes (nothing_or_room r) links
     rows None = inl refl
@@ -94,6 +95,10 @@ module _ (links : Links) where
     by true o whole = true-false o
     by false o true = whole_goes f.sending f.left
     by false o false = item_goes (is_ended f.got) n
+
+pub with_room : (need : Need) (links : Links) → links.has_room ≡ true → Goes need links → is_met need links ≡ true
+with_room need links r (inl m) = m
+with_room need links r (inr s) = true-false (sym r ∙ s)
 
 -- ---- while some node asks
 
@@ -133,6 +138,9 @@ IsFull capacity next Fresh = ⊥
 IsFull capacity next (Asks a) = ⊥
 IsFull capacity next (Answers a f) = room_to capacity answers_got_in f.sent next ≡ false
 
+inside : {p q : Phase} → Some p ≡ Some q → p ≡ q
+inside same = cc
+
 module _ (capacity : ℕ) (c : 0 < capacity) where
   -- a node before one that is stopped has an item to get
   under_stopped : (previous : Option Phase) (e : Summary) (p q : Phase) → PhaseHolds p → PhaseHolds q → LinkHolds p q → IsStopped capacity (Some p) q
@@ -149,7 +157,7 @@ module _ (capacity : ℕ) (c : 0 < capacity) where
       → (node_moves capacity previous next e p ≡ true) ⊎ (IsStopped capacity previous p ⊎ IsAnswering p)
   under_answering previous next e Fresh hp l w = inl refl
   under_answering previous next e (Answers a f) hp l w = inr (inr tt)
-  under_answering previous next e (Asks a) hp l w = by (asking_goes (asking_links capacity false previous next a) a hp.0 (waits next l w)) where
+  under_answering previous next e (Asks a) hp l w = elim (asking_goes (asking_links capacity false previous next a) a hp.0 (waits next l w)) [ inl m ↦ inl m | inr s ↦ inr (inl s) ] where
     waits : (next : Option Phase) → NextHolds (Asks a) next → ((q : Phase) → next ≡ Some q → PhaseHolds q × IsAnswering q)
         → is_ended a.got ≡ false → is_some (item_from asks_sent_in a.got next) ≡ true
     waits None l w running = true-false (sym l ∙ running)
@@ -157,37 +165,22 @@ module _ (capacity : ℕ) (c : 0 < capacity) where
     waits (Some (Asks b)) l w running = absurd (w (Asks b) refl).1
     waits (Some (Answers b f)) l w running = end_waits a.got b.sent l.asks running (w (Answers b f) refl).0.0
 
-    by : Goes (asking_need a) (asking_links capacity false previous next a) → (node_moves capacity previous next e (Asks a) ≡ true) ⊎ (IsStopped capacity previous (Asks a) ⊎ IsAnswering (Asks a))
-    by (inl m) = inl m
-    by (inr s) = inr (inl s)
-
   -- some event moves, or the first of these nodes is stopped, or none asks
   down : (previous : Option Phase) (ns : List NodeState) → NodesHold previous ns → Moves capacity previous ns ⊎ (Stopped capacity previous ns ⊎ AllAnswering ns)
   down previous [] h = inr (inr tt)
-  down previous (n ∷ []) h = by (under_answering previous None n.summary n.phase h.0 h.2 (λ q same. cc)) where
-    by : (node_moves capacity previous None n.summary n.phase ≡ true) ⊎ (IsStopped capacity previous n.phase ⊎ IsAnswering n.phase) → Moves capacity previous (n ∷ []) ⊎ (Stopped capacity previous (n ∷ []) ⊎ AllAnswering (n ∷ []))
-    by (inl m) = inl (zero, m)
-    by (inr (inl s)) = inr (inl s)
-    by (inr (inr a)) = inr (inr (a, tt))
+  down previous (n ∷ []) h = elim (under_answering previous None n.summary n.phase h.0 h.2 (λ q same. cc)) [
+    | inl m ↦ inl (zero, m)
+    | inr s ↦ elim s [ inl s ↦ inr (inl s) | inr a ↦ inr (inr (a, tt)) ]
+  ]
   down previous (n ∷ b ∷ ns) h = on (down (Some n.phase) (b ∷ ns) h.2) where
-    stopped : (node_moves capacity previous (Some b.phase) n.summary n.phase ≡ true) ⊎ IsStopped capacity previous n.phase → Moves capacity previous (n ∷ b ∷ ns) ⊎ (Stopped capacity previous (n ∷ b ∷ ns) ⊎ AllAnswering (n ∷ b ∷ ns))
-    stopped (inl m) = inl (zero, m)
-    stopped (inr s) = inr (inl s)
-
-    answering : AllAnswering (b ∷ ns) → (node_moves capacity previous (Some b.phase) n.summary n.phase ≡ true) ⊎ (IsStopped capacity previous n.phase ⊎ IsAnswering n.phase)
-        → Moves capacity previous (n ∷ b ∷ ns) ⊎ (Stopped capacity previous (n ∷ b ∷ ns) ⊎ AllAnswering (n ∷ b ∷ ns))
-    answering a (inl m) = inl (zero, m)
-    answering a (inr (inl s)) = inr (inl s)
-    answering a (inr (inr x)) = inr (inr (x, a))
-
     on : Moves capacity (Some n.phase) (b ∷ ns) ⊎ (Stopped capacity (Some n.phase) (b ∷ ns) ⊎ AllAnswering (b ∷ ns))
         → Moves capacity previous (n ∷ b ∷ ns) ⊎ (Stopped capacity previous (n ∷ b ∷ ns) ⊎ AllAnswering (n ∷ b ∷ ns))
     on (inl m) = inl (suc m.0, m.1)
-    on (inr (inl s)) = stopped (under_stopped previous n.summary n.phase b.phase h.0 h.2.0 h.2.1 s)
-    on (inr (inr a)) = answering a (under_answering previous (Some b.phase) n.summary n.phase h.0 h.2.1
-        (λ q same. (subst PhaseHolds (inside same) h.2.0, subst IsAnswering (inside same) a.0))) where
-          inside : {p q : Phase} → Some p ≡ Some q → p ≡ q
-          inside same = cc
+    on (inr (inl s)) = elim (under_stopped previous n.summary n.phase b.phase h.0 h.2.0 h.2.1 s) [ inl m ↦ inl (zero, m) | inr s ↦ inr (inl s) ]
+    on (inr (inr a)) = elim (under_answering previous (Some b.phase) n.summary n.phase h.0 h.2.1 (λ q same. (subst PhaseHolds (inside same) h.2.0, subst IsAnswering (inside same) a.0))) [
+      | inl m ↦ inl (zero, m)
+      | inr s ↦ elim s [ inl s ↦ inr (inl s) | inr x ↦ inr (inr (x, a)) ]
+    ]
 
   -- ---- once all nodes answer
 
@@ -213,15 +206,12 @@ module _ (capacity : ℕ) (c : 0 < capacity) where
   room_at_last (Answers a f) s = true-false s
 
   up : (previous : Option Phase) (n : NodeState) (ns : List NodeState) → NodesHold previous (n ∷ ns) → CanAnswer previous n.phase → AllAnswering ns → Moves capacity previous (n ∷ ns)
-  up previous n [] h t all = by (go_up previous None n.summary n.phase t) where
-    by : (node_moves capacity previous None n.summary n.phase ≡ true) ⊎ IsFull capacity None n.phase → Moves capacity previous (n ∷ [])
-    by (inl m) = (zero, m)
-    by (inr s) = absurd (room_at_last n.phase s)
-  up previous n (b ∷ ns) h t all = by (go_up previous (Some b.phase) n.summary n.phase t) (λ s. up (Some n.phase) b ns h.2 (can_answer_too previous n.phase b.phase h.0 h.2.0 h.2.1 t all.0 s) all.1) where
-    by : (node_moves capacity previous (Some b.phase) n.summary n.phase ≡ true) ⊎ IsFull capacity (Some b.phase) n.phase → (IsFull capacity (Some b.phase) n.phase → Moves capacity (Some n.phase) (b ∷ ns))
+  up previous n [] h t all = elim (go_up previous None n.summary n.phase t) [ inl m ↦ (zero, m) | inr s ↦ absurd (room_at_last n.phase s) ]
+  up previous n (b ∷ ns) h t all = on (go_up previous (Some b.phase) n.summary n.phase t) (λ s. up (Some n.phase) b ns h.2 (can_answer_too previous n.phase b.phase h.0 h.2.0 h.2.1 t all.0 s) all.1) where
+    on : (node_moves capacity previous (Some b.phase) n.summary n.phase ≡ true) ⊎ IsFull capacity (Some b.phase) n.phase → (IsFull capacity (Some b.phase) n.phase → Moves capacity (Some n.phase) (b ∷ ns))
         → Moves capacity previous (n ∷ b ∷ ns)
-    by (inl m) rest = (zero, m)
-    by (inr s) rest = let m = rest s in (suc m.0, m.1)
+    on (inl m) rest = (zero, m)
+    on (inr s) rest = let m = rest s in (suc m.0, m.1)
 
   -- a node that answers is done, or it hears, where what comes before it is done
   done_or_can_answer : (previous : Option Phase) (p : Phase) → PhaseHolds p → PreviousHolds previous p → IsAnswering p → ((q : Phase) → previous ≡ Some q → is_ended (answers_sent_in q) ≡ true)
@@ -240,17 +230,11 @@ module _ (capacity : ℕ) (c : 0 < capacity) where
 
   seek : (previous : Option Phase) (ns : List NodeState) → NodesHold previous ns → AllAnswering ns → ((q : Phase) → previous ≡ Some q → is_ended (answers_sent_in q) ≡ true) → AllDone ns ⊎ Moves capacity previous ns
   seek previous [] h all d = inl tt
-  seek previous (n ∷ ns) h all d = by (done_or_can_answer previous n.phase h.0 h.1 all.0 d) (seek (Some n.phase) ns h.2 all.1) where
-    rest : is_done n.phase ≡ true → AllDone ns ⊎ Moves capacity (Some n.phase) ns → AllDone (n ∷ ns) ⊎ Moves capacity previous (n ∷ ns)
-    rest x (inl all) = inl (x, all)
-    rest x (inr m) = inr (suc m.0, m.1)
-
-    by : ((is_done n.phase ≡ true) × (is_ended (answers_sent_in n.phase) ≡ true)) ⊎ CanAnswer previous n.phase
+  seek previous (n ∷ ns) h all d = on (done_or_can_answer previous n.phase h.0 h.1 all.0 d) (seek (Some n.phase) ns h.2 all.1) where
+    on : ((is_done n.phase ≡ true) × (is_ended (answers_sent_in n.phase) ≡ true)) ⊎ CanAnswer previous n.phase
         → (((q : Phase) → Some n.phase ≡ Some q → is_ended (answers_sent_in q) ≡ true) → AllDone ns ⊎ Moves capacity (Some n.phase) ns) → AllDone (n ∷ ns) ⊎ Moves capacity previous (n ∷ ns)
-    by (inl x) next = rest x.0 (next (λ q same. subst (λ (p : Phase). is_ended (answers_sent_in p) ≡ true) (inside same) x.1)) where
-      inside : {p q : Phase} → Some p ≡ Some q → p ≡ q
-      inside same = cc
-    by (inr t) next = inr (up previous n ns h t all.1)
+    on (inl x) next = elim (next (λ q same. subst (λ (p : Phase). is_ended (answers_sent_in p) ≡ true) (inside same) x.1)) [ inl all ↦ inl (x.0, all) | inr m ↦ inr (suc m.0, m.1) ]
+    on (inr t) next = inr (up previous n ns h t all.1)
 
   room_at_first : (p : Phase) → IsStopped capacity None p → ⊥
   room_at_first Fresh s = s
@@ -270,83 +254,23 @@ never_still capacity es schedule c = goes_on capacity c _ (reached capacity sche
 
 -- ---- what does not move stays
 
-module _ (first : Bool) (e : Summary) (links : Links) (a : Asking) where
-  still_item : (refused : Bool) (next : Option Message) → is_some next ≡ false → pop_ask refused first e a next ≡ a
-  still_item refused None s = refl
-  still_item refused (Some m) s = true-false s
-
-  still_drop : (next : Option Message) → is_some next ≡ false → drop_ask a next ≡ a
-  still_drop None s = refl
-  still_drop (Some m) s = true-false s
-
-  still_push : (room : Bool) (l : Loc) → room ≡ false → push_ask room a l ≡ a
-  still_push true l s = true-false s
-  still_push false l s = refl
-
-  still_end : (room : Bool) → room ≡ false → end_asks room a ≡ a
-  still_end true s = true-false s
-  still_end false s = refl
-
-  still_whole : (waiting : List Loc) (left : List SinkTerms) (ended : Bool) → is_met (whole_asking_need waiting left ended) links ≡ false → whole_asking first e links a waiting left ended ≡ a
-  still_whole (l ∷ waiting) left ended s = still_push links.has_room l s
-  still_whole [] (k ∷ left) ended s = true-false s
-  still_whole [] [] true s = still_end links.has_room s
-  still_whole [] [] false s = still_item links.is_refused links.item s
-
-  still_broken : (ended : Bool) → is_met (item_or_room ended) links ≡ false → broken_asking links a ended ≡ a
-  still_broken true s = still_end links.has_room s
-  still_broken false s = still_drop links.item s
-
-  still_by : (over whole : Bool) → is_met (asking_need_by a over whole) links ≡ false → asking_by first e links a over whole ≡ a
-  still_by true whole s = refl
-  still_by false true s = still_whole (drop a.pushed a.asked) a.left (is_ended a.got) s
-  still_by false false s = still_broken (is_ended a.got) s
-
 pub still_asking : StillAsking
-still_asking first e links a s = still_by first e links a a.is_over a.is_whole s
-
-module _ (e : Summary) (asked : List Loc) (links : Links) (f : Answering) where
-  still_answer_item : (refused : Bool) (next : Option Message) → is_some next ≡ false → pop_answer refused f next ≡ f
-  still_answer_item refused None s = refl
-  still_answer_item refused (Some m) s = true-false s
-
-  still_answer_drop : (next : Option Message) → is_some next ≡ false → drop_answer f next ≡ f
-  still_answer_drop None s = refl
-  still_answer_drop (Some m) s = true-false s
-
-  still_answer_push : (room : Bool) (m : Message) (sending : List Message) → room ≡ false → push_answer room f m sending ≡ f
-  still_answer_push true m sending s = true-false s
-  still_answer_push false m sending s = refl
-
-  still_answer_end : (room : Bool) → room ≡ false → end_answers room f ≡ f
-  still_answer_end true s = true-false s
-  still_answer_end false s = refl
-
-  still_rows : (rows : Option (List Row)) → is_met (nothing_or_room rows) links ≡ false → resolve_or_end e asked links f rows ≡ f
-  still_rows None s = true-false s
-  still_rows (Some rows) s = still_answer_end links.has_room s
-
-  still_last : (ended : Bool) → is_met (last_need ended f.rows) links ≡ false → pop_or_end e asked links f ended ≡ f
-  still_last true s = still_rows f.rows s
-  still_last false s = still_answer_item links.is_refused links.item s
-
-  still_request : (b : Bool) (l : Loc) (left : List Loc) → is_met (nothing_or_item b) links ≡ false → build_or_pop b e asked links f l left ≡ f
-  still_request true l left s = true-false s
-  still_request false l left s = still_answer_item links.is_refused links.item s
-
-  still_answers : (sending : List Message) (left : List Loc) → is_met (whole_answering_need e asked f sending left) links ≡ false → whole_answering e asked links f sending left ≡ f
-  still_answers (m ∷ sending) left s = still_answer_push links.has_room m sending s
-  still_answers [] (l ∷ left) s = still_request (is_resolvable asked f.got (e.ends l)) l left s
-  still_answers [] [] s = still_last (is_ended f.got) s
-
-  still_broken_answers : (ended : Bool) → is_met (item_or_room ended) links ≡ false → broken_answering links f ended ≡ f
-  still_broken_answers true s = still_answer_end links.has_room s
-  still_broken_answers false s = still_answer_drop links.item s
-
-  still_answers_by : (over whole : Bool) → is_met (answering_need_by e asked f over whole) links ≡ false → answering_by e asked links f over whole ≡ f
-  still_answers_by true whole s = refl
-  still_answers_by false true s = still_answers f.sending f.left s
-  still_answers_by false false s = still_broken_answers (is_ended f.got) s
+still_asking first e links a s = by (ask_event first e links a) s where
+  by : {b : Asking} {moves : Bool} → AskEvent first e links a b moves → moves ≡ false → b ≡ a
+  by AsksNothing s = refl
+  by (PushesAsk l waiting o w d r) s = true-false s
+  by (WalksSink refused k left o w l) s = true-false s
+  by (TakesAsk refused m o w l n i) s = true-false s
+  by (DropsAsk m o w i) s = true-false s
+  by (EndsAsks o n w r) s = true-false s
 
 pub still_answering : StillAnswering
-still_answering e asked links f s = still_answers_by e asked links f f.is_over f.is_whole s
+still_answering e asked links f s = by (answer_event e asked links f) s where
+  by : {g : Answering} {moves : Bool} → AnswerEvent e asked links f g moves → moves ≡ false → g ≡ f
+  by AnswersNothing s = refl
+  by (PushesAnswer m sending o w k r) s = true-false s
+  by (TakesAnswer refused m o w n i) s = true-false s
+  by (BuildsAnswer refused l left o w k p r) s = true-false s
+  by (ResolvesRows refused o w r n) s = true-false s
+  by (DropsAnswer m o w i) s = true-false s
+  by (EndsAnswers o n w r) s = true-false s

@@ -1,5 +1,5 @@
 -- How many events moved in nodes that are done.
-use Rattle.std.proofs.Common.{◌≡◌, ℕ, zero, suc, ◌+◌, ◌*◌, List, [], ◌∷◌, ◌++◌, map, length, refl, ap, sym, ◌∙◌, Bool, true, false, length-append, append_assoc, arith}
+use Rattle.std.proofs.Common.{◌≡◌, ℕ, suc, ◌+◌, ◌*◌, List, [], ◌∷◌, ◌++◌, map, length, refl, ap, sym, ◌∙◌, Bool, true, false, length-append, append_assoc, arith}
 use Rattle.std.specs.List.{flat_map}
 use Rattle.std.proofs.lemmas.List.{length-map}
 use Rattle.flow_model.specs.declared.Loc.{Loc}
@@ -10,14 +10,13 @@ use Rattle.flow_model.specs.declared.Message.{Message}
 use Rattle.flow_model.specs.declared.Message.TheVariants.{Ask, Byte, Close, End}
 use Rattle.report_model.specs.Query.{Query, policy_of}
 use Rattle.report_model.specs.Rows.{rows_as_written}
-use Rattle.epoch_model.specs.Cutting.{IsCutting}
 use Rattle.epoch_model.specs.Summary.{AreSummaries}
 use Rattle.epoch_model.specs.Crossing.{crossing_at}
 use Rattle.stream_model.specs.Streams.{requests, answer, Node, AreDone, summaries}
 use Rattle.stream_model.specs.StreamLaws.{answers_to, LinksCarry}
 use Rattle.stream_model.specs.Passes.{got_at_start}
 use Rattle.stream_model.specs.Work.{many_got, work_in_all, asked_in_all, listed, listed_in_all, EndsPastLast, DoneNodesWork}
-use Rattle.stream_model.proofs.Meeting.{asks_back, done_nodes_meet}
+use Rattle.stream_model.proofs.Meeting.{no_cuts, asks_back, done_nodes_meet}
 use Rattle.stream_model.proofs.Moves.{one_longer}
 
 -- what was got, with the End that counts as seen
@@ -75,10 +74,6 @@ module _ (q : Query) (trace : List StepSeen) where
   one_each s [] (n ∷ ns) i = absurd i
   one_each s (c ∷ cs) [] i = absurd i
   one_each s (c ∷ cs) (n ∷ ns) i = ap suc (one_each c cs ns i.1)
-
-no_cuts : (n : ℕ) → IsCutting n [] → ⊥
-no_cuts zero h = cc
-no_cuts (suc n) h = omega (arith, h)
 
 pub done_nodes_work : DoneNodesWork
 done_nodes_work q trace [] [] steps points c i d e = absurd (no_cuts (length trace) c)

@@ -1,10 +1,10 @@
 -- The invariants of the two passes.
 use Rattle.std.proofs.Common.{◌≡◌, ℕ, zero, suc, ◌+◌, ◌≤◌, List, [], ◌∷◌, ◌++◌, map, length, take, drop, refl, ap, ap₂, sym, ◌∙◌, Bool, true, false, append-nil, append_assoc, length-append, arith}
-use Rattle.std.specs.Prelude.{Option, Some, None}
+use Rattle.std.specs.Prelude.{Some}
 use Rattle.std.specs.List.{flat_map}
 use Rattle.std.proofs.lemmas.List.{map-append, take-append-le}
 use Rattle.std.proofs.lemmas.List.Concat.{flat_map-append}
-use Rattle.std.proofs.lemmas.Bool.{or_left, or_parts}
+use Rattle.std.proofs.lemmas.Bool.{or_left}
 use Rattle.lists.proofs.Tests.{true-false}
 use Rattle.flow_model.specs.declared.Loc.{Loc}
 use Rattle.flow_model.specs.declared.SourceByte.{SourceByte}
@@ -17,8 +17,9 @@ use Rattle.epoch_model.specs.Join.{answer_to, resolved, rows_of}
 use Rattle.epoch_model.proofs.Adding.{added_all-append}
 use Rattle.stream_model.specs.Streams.{is_ended, requests, heard, is_resolvable, end_if, asks_for, answer, then_if, answers_for, asked_of}
 use Rattle.stream_model.specs.StreamLaws.{IsPrefix}
-use Rattle.stream_model.specs.Passes.{Links, Asking, Answering, asking_start, got_at_start, asked_more, wanted_for, is_whole_message, asked_if, push_ask, walk, pop_ask, drop_ask, end_asks, broken_asking, whole_asking, asking_by, asking_event, asking_after, answering_start, push_answer, pop_answer, build, build_or_pop, resolve, drop_answer, end_answers, resolve_or_end, pop_or_end, broken_answering, whole_answering, answering_by, answering_event, answering_after, rows_or_none}
+use Rattle.stream_model.specs.Passes.{Links, Asking, Answering, asking_start, got_at_start, asked_more, wanted_for, is_whole_message, asked_if, asking_event, asking_after, answering_start, answering_event, answering_after, rows_or_none}
 use Rattle.stream_model.specs.PassLaws.{AsksSent, AskingSends, AnswersSent, AnsweringSends, PassesEndDone}
+use Rattle.stream_model.proofs.Events.{AskEvent, AsksNothing, PushesAsk, WalksSink, TakesAsk, DropsAsk, EndsAsks, ask_event, AnswerEvent, AnswersNothing, PushesAnswer, TakesAnswer, BuildsAnswer, ResolvesRows, DropsAnswer, EndsAnswers, answer_event}
 use Rattle.stream_model.proofs.Growing.{prefix_same, prefix_trans, added_all_keeps, requests_more, resolvable_stays, ended_stays, answers_stay}
 
 -- ---- parts of a list
@@ -87,11 +88,15 @@ asked_then e xs ys =
     ap (added_all []) (ap (λ (ls : List Loc). starts e.sinks ++ ls) (flat_map-append ends xs ys) ∙ sym (append_assoc (starts e.sinks) (flat_map ends xs) (flat_map ends ys)))
     ∙ added_all-append [] (wanted e xs) (flat_map ends ys)
 
-module _ (first last : Bool) (e : Summary) (links : Links) (a : Asking) (h : AskingHolds first last e a) (whole : a.is_whole ≡ true) where
-  on_push : (room : Bool) (l : Loc) (waiting : List Loc) → a.is_over ≡ false → drop a.pushed a.asked ≡ l ∷ waiting → AskingHolds first last e (push_ask room a l)
-  on_push false l waiting o w = h
-  on_push true l waiting o w =
-      let more = one_more a.pushed a.asked l waiting w in
+-- it is kept by each event that leaves the pass whole
+pub asking_keeps : (first last : Bool) (e : Summary) (links : Links) (a : Asking) → (a.is_whole ≡ true → AskingHolds first last e a)
+    → (asking_event first e links a).is_whole ≡ true → AskingHolds first last e (asking_event first e links a)
+asking_keeps first last e links a holds = by (ask_event first e links a) where
+  by : {b : Asking} {moves : Bool} → AskEvent first e links a b moves → b.is_whole ≡ true → AskingHolds first last e b
+  by AsksNothing t = holds t
+  by (PushesAsk l waiting o w d r) t =
+      let h = holds w in
+      let more = one_more a.pushed a.asked l waiting d in
       record {
         sent = λ _. ap (λ (ms : List Message). ms ++ Ask l ∷ []) (h.sent o) ∙ sym (map-append Ask (take a.pushed a.asked) (l ∷ [])) ∙ ap (map Ask) (sym more.0);
         within = more.1;
@@ -100,80 +105,49 @@ module _ (first last : Bool) (e : Summary) (links : Links) (a : Asking) (h : Ask
         alone = h.alone;
         over = λ t. true-false (sym t ∙ o);
       }
-
-  on_walk : (refused : Bool) (k : SinkTerms) (left : List SinkTerms) → a.is_over ≡ false → a.left ≡ k ∷ left → (walk refused first a k left).is_whole ≡ true → AskingHolds first last e (walk refused first a k left)
-  on_walk true k left o w t = true-false (sym t)
-  on_walk false k left o w t =
+  by (WalksSink true k left o w s) t = true-false (sym t)
+  by (WalksSink false k left o w s) t =
+      let h = holds w in
       let front = take_front a.pushed a.asked (asked_more first a.asked k.terms.starts) h.within (more_keeps first a.asked k.terms.starts) in
       record {
         sent = λ _. h.sent o ∙ ap (map Ask) (sym front.0);
         within = front.1;
         nothing = λ f. nothing_more first a.asked k.terms.starts f (h.nothing f);
         asked = λ f. ap (λ (b : Bool). added_all (asked_more b a.asked k.terms.starts) (starts left)) f
-            ∙ sym (added_all-append a.asked k.terms.starts (starts left)) ∙ ap (λ (ks : List SinkTerms). added_all a.asked (starts ks)) (sym w) ∙ h.asked f;
+            ∙ sym (added_all-append a.asked k.terms.starts (starts left)) ∙ ap (λ (ks : List SinkTerms). added_all a.asked (starts ks)) (sym s) ∙ h.asked f;
         alone = h.alone;
         over = λ t. true-false (sym t ∙ o);
       }
-
-  on_take : (m : Message) → a.is_over ≡ false → a.left ≡ [] → is_ended a.got ≡ false → (b : Bool) → b ≡ true
-      → AskingHolds first last e (record a { got = a.got ++ m ∷ []; asked = asked_if b (asked_more first a.asked (wanted_for e m)); is_whole = b })
-  on_take m o w running false t = true-false (sym t)
-  on_take m o w running true t =
-      let front = take_front a.pushed a.asked (asked_more first a.asked (wanted_for e m)) h.within (more_keeps first a.asked (wanted_for e m)) in
-      record {
-        sent = λ _. h.sent o ∙ ap (map Ask) (sym front.0);
-        within = front.1;
-        nothing = λ f. nothing_more first a.asked (wanted_for e m) f (h.nothing f);
-        asked = λ f. ap₂ (λ (b : Bool) (ks : List SinkTerms). added_all (asked_more b a.asked (wanted_for e m)) (starts ks)) f w
-            ∙ one_request e a.asked m
-            ∙ ap (λ (ls : List Loc). added_all ls (flat_map (λ l. (e.ends l).starts) (requests (m ∷ [])))) (ap (λ (ks : List SinkTerms). added_all a.asked (starts ks)) (sym w) ∙ h.asked f)
-            ∙ sym (asked_then e (requests a.got) (requests (m ∷ []))) ∙ ap (asked_by e) (sym (requests_more a.got (m ∷ []) running));
-        alone = λ l. true-false (sym (ap is_ended (h.alone l)) ∙ running);
-        over = λ t. true-false (sym t ∙ o);
-      }
-
-  on_pop : (refused : Bool) (next : Option Message) → a.is_over ≡ false → a.left ≡ [] → is_ended a.got ≡ false → (pop_ask refused first e a next).is_whole ≡ true → AskingHolds first last e (pop_ask refused first e a next)
-  on_pop refused None o w running t = h
-  on_pop true (Some m) o w running t = true-false (sym t)
-  on_pop false (Some m) o w running t = on_take m o w running (is_whole_message m) t
-
-  on_end : (room : Bool) → a.is_over ≡ false → drop a.pushed a.asked ≡ [] → a.left ≡ [] → is_ended a.got ≡ true → AskingHolds first last e (end_asks room a)
-  on_end false o w l ended = h
-  on_end true o w l ended =
+  by (TakesAsk true m o w l n i) t = true-false (sym t)
+  by (TakesAsk false m o w l n i) t = taken (is_whole_message m) t where
+    taken : (b : Bool) → b ≡ true → AskingHolds first last e (record a { got = a.got ++ m ∷ []; asked = asked_if b (asked_more first a.asked (wanted_for e m)); is_whole = b })
+    taken false t = true-false (sym t)
+    taken true t =
+        let h = holds w in
+        let front = take_front a.pushed a.asked (asked_more first a.asked (wanted_for e m)) h.within (more_keeps first a.asked (wanted_for e m)) in
+        record {
+          sent = λ _. h.sent o ∙ ap (map Ask) (sym front.0);
+          within = front.1;
+          nothing = λ f. nothing_more first a.asked (wanted_for e m) f (h.nothing f);
+          asked = λ f. ap₂ (λ (b : Bool) (ks : List SinkTerms). added_all (asked_more b a.asked (wanted_for e m)) (starts ks)) f l
+              ∙ one_request e a.asked m
+              ∙ ap (λ (ls : List Loc). added_all ls (flat_map (λ l. (e.ends l).starts) (requests (m ∷ [])))) (ap (λ (ks : List SinkTerms). added_all a.asked (starts ks)) (sym l) ∙ h.asked f)
+              ∙ sym (asked_then e (requests a.got) (requests (m ∷ []))) ∙ ap (asked_by e) (sym (requests_more a.got (m ∷ []) n));
+          alone = λ last. true-false (sym (ap is_ended (h.alone last)) ∙ n);
+          over = λ t. true-false (sym t ∙ o);
+        }
+  by (DropsAsk m o w i) t = true-false (sym t ∙ w)
+  by (EndsAsks o n w r) t =
+      let h = holds t in
+      let none = w t in
       record {
         sent = true-false;
         within = h.within;
         nothing = h.nothing;
         asked = h.asked;
         alone = h.alone;
-        over = λ _. (l, ended, ap₂ (λ (ms : List Message) (b : Bool). ms ++ End b ∷ []) (h.sent o ∙ ap (map Ask) (none_more a.pushed a.asked w)) whole);
+        over = λ _. (none.1, n, ap₂ (λ (ms : List Message) (b : Bool). ms ++ End b ∷ []) (h.sent o ∙ ap (map Ask) (none_more a.pushed a.asked none.0)) t);
       }
-
-  on_whole : a.is_over ≡ false → (waiting : List Loc) → drop a.pushed a.asked ≡ waiting → (left : List SinkTerms) → a.left ≡ left → (ended : Bool) → is_ended a.got ≡ ended
-      → (whole_asking first e links a waiting left ended).is_whole ≡ true → AskingHolds first last e (whole_asking first e links a waiting left ended)
-  on_whole o (x ∷ waiting) w left l ended d t = on_push links.has_room x waiting o w
-  on_whole o [] w (k ∷ left) l ended d t = on_walk links.is_refused k left o l t
-  on_whole o [] w [] l false d t = on_pop links.is_refused links.item o l d t
-  on_whole o [] w [] l true d t = on_end links.has_room o w l d
-
-pub stays_broken : (links : Links) (a : Asking) (ended : Bool) → (broken_asking links a ended).is_whole ≡ a.is_whole
-stays_broken links a false = by links.item where
-  by : (next : Option Message) → (drop_ask a next).is_whole ≡ a.is_whole
-  by None = refl
-  by (Some m) = refl
-stays_broken links a true = by links.has_room where
-  by : (room : Bool) → (end_asks room a).is_whole ≡ a.is_whole
-  by true = refl
-  by false = refl
-
--- it is kept by each event that leaves the pass whole
-pub asking_keeps : (first last : Bool) (e : Summary) (links : Links) (a : Asking) → (a.is_whole ≡ true → AskingHolds first last e a)
-    → (asking_event first e links a).is_whole ≡ true → AskingHolds first last e (asking_event first e links a)
-asking_keeps first last e links a h = by a.is_over refl a.is_whole refl where
-  by : (over : Bool) → a.is_over ≡ over → (whole : Bool) → a.is_whole ≡ whole → (asking_by first e links a over whole).is_whole ≡ true → AskingHolds first last e (asking_by first e links a over whole)
-  by true o whole w t = h t
-  by false o true w t = on_whole first last e links a (h w) w o (drop a.pushed a.asked) refl a.left refl (is_ended a.got) refl t
-  by false o false w t = true-false (sym t ∙ stays_broken links a (is_ended a.got) ∙ w)
 
 pub asking_starts : (first last : Bool) (e : Summary) → AskingHolds first last e (asking_start last e)
 asking_starts first last e = record {
@@ -253,105 +227,68 @@ first_answer e asked l left got more h = by (is_ended got) refl where
   )
   by false running = both (resolvable_stays asked got more (e.ends l) running h)
 
-module _ (first : Bool) (e : Summary) (asked ls : List Loc) (links : Links) (f : Answering) (h : AnsweringHolds first e asked ls f) (whole : f.is_whole ≡ true) where
-  on_send : (room : Bool) (m : Message) (sending : List Message) → f.is_over ≡ false → f.sending ≡ m ∷ sending → AnsweringHolds first e asked ls (push_answer room f m sending)
-  on_send false m sending o s = h
-  on_send true m sending o s = record {
-    sent = λ _ more.
-        append_assoc f.sent (m ∷ []) (sending ++ answers_for e asked f.left (f.got ++ more))
-        ∙ ap (λ (ms : List Message). f.sent ++ (ms ++ answers_for e asked f.left (f.got ++ more))) (sym s) ∙ h.sent o more;
-    alone = h.alone;
-    resolved = h.resolved;
-    over = λ t. true-false (sym t ∙ o);
-  }
-
-  on_receive : (refused : Bool) (next : Option Message) → f.is_over ≡ false → is_ended f.got ≡ false → (pop_answer refused f next).is_whole ≡ true → AnsweringHolds first e asked ls (pop_answer refused f next)
-  on_receive refused None o running t = h
-  on_receive true (Some m) o running t = true-false (sym t)
-  on_receive false (Some m) o running t = record {
-    sent = λ _ more.
-        let grown = append_assoc f.got (m ∷ []) more in
-        ap (λ (got : List Message). f.sent ++ (f.sending ++ answers_for e asked f.left got)) grown ∙ h.sent o (m ∷ more) ∙ ap (answers_for e asked ls) (sym grown);
-    alone = λ t. true-false (sym (ap is_ended (h.alone t)) ∙ running);
-    resolved = λ r s. true-false (sym (h.resolved r s).0 ∙ running);
-    over = λ t. true-false (sym t ∙ o);
-  }
-
-  on_build : (refused : Bool) (l : Loc) (left : List Loc) → f.is_over ≡ false → f.sending ≡ [] → f.left ≡ l ∷ left → is_resolvable asked f.got (e.ends l) ≡ true
-      → (build refused e asked f l left).is_whole ≡ true → AnsweringHolds first e asked ls (build refused e asked f l left)
-  on_build true l left o s w r t = true-false (sym t)
-  on_build false l left o s w r t = record {
-    sent = λ _ more.
-        ap (λ (ms : List Message). f.sent ++ ms) (first_answer e asked l left f.got more r)
-        ∙ ap₂ (λ (ms : List Message) (ks : List Loc). f.sent ++ (ms ++ answers_for e asked ks (f.got ++ more))) (sym s) (sym w) ∙ h.sent o more;
-    alone = h.alone;
-    resolved = h.resolved;
-    over = λ u. true-false (sym u ∙ o);
-  }
-
-  on_request : (b : Bool) (l : Loc) (left : List Loc) → f.is_over ≡ false → f.sending ≡ [] → f.left ≡ l ∷ left → is_resolvable asked f.got (e.ends l) ≡ b
-      → (build_or_pop b e asked links f l left).is_whole ≡ true → AnsweringHolds first e asked ls (build_or_pop b e asked links f l left)
-  on_request false l left o s w r t = on_receive links.is_refused links.item o (or_parts (is_ended f.got) _ r).0 t
-  on_request true l left o s w r t = on_build links.is_refused l left o s w r t
-
-  on_resolve : (refused : Bool) → f.is_over ≡ false → is_ended f.got ≡ true → (resolve refused e asked f).is_whole ≡ true → AnsweringHolds first e asked ls (resolve refused e asked f)
-  on_resolve true o ended t = true-false (sym t)
-  on_resolve false o ended t = record {
-    sent = h.sent;
-    alone = h.alone;
-    resolved = λ r same. (ended, cc);
-    over = λ u. true-false (sym u ∙ o);
-  }
-
-  on_rows : (rows : Option (List Row)) → f.rows ≡ rows → f.is_over ≡ false → f.sending ≡ [] → f.left ≡ [] → is_ended f.got ≡ true
-      → (resolve_or_end e asked links f rows).is_whole ≡ true → AnsweringHolds first e asked ls (resolve_or_end e asked links f rows)
-  on_rows None is o s w ended t = on_resolve links.is_refused o ended t
-  on_rows (Some rows) is o s w ended t = by links.has_room where
-    all : f.sent ++ End true ∷ [] ≡ answers_for e asked ls f.got
-    all =
-        let none = append-nil f.got in
-        ap (λ (b : Bool). f.sent ++ end_if b) (sym ended)
-        ∙ ap (λ (got : List Message). f.sent ++ answers_for e asked [] got) (sym none)
-        ∙ ap₂ (λ (ms : List Message) (ks : List Loc). f.sent ++ (ms ++ answers_for e asked ks (f.got ++ []))) (sym s) (sym w)
-        ∙ h.sent o [] ∙ ap (answers_for e asked ls) none
-
-    by : (room : Bool) → AnsweringHolds first e asked ls (end_answers room f)
-    by false = h
-    by true = record {
-      sent = true-false;
-      alone = h.alone;
-      resolved = h.resolved;
-      over = λ _. (ended, ap (λ (b : Bool). f.sent ++ End b ∷ []) whole ∙ all, is ∙ ap (λ (r : List Row). Some r) (h.resolved rows is).1, w);
-    }
-
-  on_end_or_pop : (b : Bool) → is_ended f.got ≡ b → f.is_over ≡ false → f.sending ≡ [] → f.left ≡ [] → (pop_or_end e asked links f b).is_whole ≡ true → AnsweringHolds first e asked ls (pop_or_end e asked links f b)
-  on_end_or_pop false d o s w t = on_receive links.is_refused links.item o d t
-  on_end_or_pop true d o s w t = on_rows f.rows refl o s w d t
-
-  on_whole_answering : f.is_over ≡ false → (sending : List Message) → f.sending ≡ sending → (left : List Loc) → f.left ≡ left
-      → (whole_answering e asked links f sending left).is_whole ≡ true → AnsweringHolds first e asked ls (whole_answering e asked links f sending left)
-  on_whole_answering o (m ∷ sending) s left w t = on_send links.has_room m sending o s
-  on_whole_answering o [] s (l ∷ left) w t = on_request (is_resolvable asked f.got (e.ends l)) l left o s w refl t
-  on_whole_answering o [] s [] w t = on_end_or_pop (is_ended f.got) refl o s w t
-
-pub answering_stays_broken : (links : Links) (f : Answering) (ended : Bool) → (broken_answering links f ended).is_whole ≡ f.is_whole
-answering_stays_broken links f false = by links.item where
-  by : (next : Option Message) → (drop_answer f next).is_whole ≡ f.is_whole
-  by None = refl
-  by (Some m) = refl
-answering_stays_broken links f true = by links.has_room where
-  by : (room : Bool) → (end_answers room f).is_whole ≡ f.is_whole
-  by true = refl
-  by false = refl
-
 -- it is kept by each event that leaves the pass whole
 pub answering_keeps : (first : Bool) (e : Summary) (asked ls : List Loc) (links : Links) (f : Answering) → (f.is_whole ≡ true → AnsweringHolds first e asked ls f)
     → (answering_event e asked links f).is_whole ≡ true → AnsweringHolds first e asked ls (answering_event e asked links f)
-answering_keeps first e asked ls links f h = by f.is_over refl f.is_whole refl where
-  by : (over : Bool) → f.is_over ≡ over → (whole : Bool) → f.is_whole ≡ whole → (answering_by e asked links f over whole).is_whole ≡ true → AnsweringHolds first e asked ls (answering_by e asked links f over whole)
-  by true o whole w t = h t
-  by false o true w t = on_whole_answering first e asked ls links f (h w) w o f.sending refl f.left refl t
-  by false o false w t = true-false (sym t ∙ answering_stays_broken links f (is_ended f.got) ∙ w)
+answering_keeps first e asked ls links f holds = by (answer_event e asked links f) where
+  by : {g : Answering} {moves : Bool} → AnswerEvent e asked links f g moves → g.is_whole ≡ true → AnsweringHolds first e asked ls g
+  by AnswersNothing t = holds t
+  by (PushesAnswer m sending o w s r) t =
+      let h = holds w in
+      record {
+        sent = λ _ more.
+            append_assoc f.sent (m ∷ []) (sending ++ answers_for e asked f.left (f.got ++ more))
+            ∙ ap (λ (ms : List Message). f.sent ++ (ms ++ answers_for e asked f.left (f.got ++ more))) (sym s) ∙ h.sent o more;
+        alone = h.alone;
+        resolved = h.resolved;
+        over = λ t. true-false (sym t ∙ o);
+      }
+  by (TakesAnswer true m o w n i) t = true-false (sym t)
+  by (TakesAnswer false m o w n i) t =
+      let h = holds w in
+      record {
+        sent = λ _ more.
+            let grown = append_assoc f.got (m ∷ []) more in
+            ap (λ (got : List Message). f.sent ++ (f.sending ++ answers_for e asked f.left got)) grown ∙ h.sent o (m ∷ more) ∙ ap (answers_for e asked ls) (sym grown);
+        alone = λ t. true-false (sym (ap is_ended (h.alone t)) ∙ n);
+        resolved = λ r s. true-false (sym (h.resolved r s).0 ∙ n);
+        over = λ t. true-false (sym t ∙ o);
+      }
+  by (BuildsAnswer true l left o w s k r) t = true-false (sym t)
+  by (BuildsAnswer false l left o w s k r) t =
+      let h = holds w in
+      record {
+        sent = λ _ more.
+            ap (λ (ms : List Message). f.sent ++ ms) (first_answer e asked l left f.got more r)
+            ∙ ap₂ (λ (ms : List Message) (ks : List Loc). f.sent ++ (ms ++ answers_for e asked ks (f.got ++ more))) (sym s) (sym k) ∙ h.sent o more;
+        alone = h.alone;
+        resolved = h.resolved;
+        over = λ u. true-false (sym u ∙ o);
+      }
+  by (ResolvesRows true o w r n) t = true-false (sym t)
+  by (ResolvesRows false o w r n) t =
+      let h = holds w in
+      record { sent = h.sent; alone = h.alone; resolved = λ r same. (n, cc); over = λ u. true-false (sym u ∙ o) }
+  by (DropsAnswer m o w i) t = true-false (sym t ∙ w)
+  by (EndsAnswers o n w r) t =
+      let h = holds t in
+      let x = w t in
+      let none = append-nil f.got in
+      record {
+        sent = true-false;
+        alone = h.alone;
+        resolved = h.resolved;
+        over = λ _. (
+          n,
+          ap (λ (b : Bool). f.sent ++ End b ∷ []) t
+              ∙ ap (λ (b : Bool). f.sent ++ end_if b) (sym n)
+              ∙ ap (λ (got : List Message). f.sent ++ answers_for e asked [] got) (sym none)
+              ∙ ap₂ (λ (ms : List Message) (ks : List Loc). f.sent ++ (ms ++ answers_for e asked ks (f.got ++ []))) (sym x.0) (sym x.1)
+              ∙ h.sent o [] ∙ ap (answers_for e asked ls) none,
+          x.3 ∙ ap (λ (r : List Row). Some r) (h.resolved x.2 x.3).1,
+          x.1,
+        );
+      }
 
 pub answering_starts : (whole first : Bool) (e : Summary) (asked ls : List Loc) → AnsweringHolds first e asked ls (answering_start whole first ls)
 answering_starts whole first e asked ls = record {
@@ -386,13 +323,15 @@ answering_sends first e asked ls schedule w =
 -- what ends whole began whole
 pub begun_whole : (e : Summary) (asked : List Loc) (schedule : List Links) (f : Answering) → (answering_after e asked schedule f).is_whole ≡ true → f.is_whole ≡ true
 begun_whole e asked [] f w = w
-begun_whole e asked (links ∷ schedule) f w = by f.is_whole refl (begun_whole e asked schedule (answering_event e asked links f) w) where
-  by : (b : Bool) → f.is_whole ≡ b → (answering_event e asked links f).is_whole ≡ true → b ≡ true
-  by true is t = refl
-  by false is t = over f.is_over (ap (λ (b : Bool). (answering_by e asked links f f.is_over b).is_whole) (sym is) ∙ t) where
-    over : (o : Bool) → (answering_by e asked links f o false).is_whole ≡ true → false ≡ true
-    over true t = sym is ∙ t
-    over false t = sym is ∙ sym (answering_stays_broken links f (is_ended f.got)) ∙ t
+begun_whole e asked (links ∷ schedule) f w = by (answer_event e asked links f) (begun_whole e asked schedule (answering_event e asked links f) w) where
+  by : {g : Answering} {moves : Bool} → AnswerEvent e asked links f g moves → g.is_whole ≡ true → f.is_whole ≡ true
+  by AnswersNothing t = t
+  by (PushesAnswer m sending o w s r) t = w
+  by (TakesAnswer refused m o w n i) t = w
+  by (BuildsAnswer refused l left o w s k r) t = w
+  by (ResolvesRows refused o w r n) t = w
+  by (DropsAnswer m o w i) t = t
+  by (EndsAnswers o n w r) t = t
 
 pub passes_end_done : PassesEndDone
 passes_end_done first last e schedule later =

@@ -11,6 +11,7 @@ use Rattle.stream_model.specs.StreamLaws.{IsPrefix, EndsLast}
 use Rattle.stream_model.specs.Passes.{Asking, asking_event, rows_or_none}
 use Rattle.stream_model.specs.Schedules.{Phase, Fresh, Asks, Answers, NodeState, Event, asking_links, answering_links, begun, settled_by, node_event, phase_of_first, event_at, nodes_start, nodes_after, is_done, is_whole_in, node_in}
 use Rattle.stream_model.specs.ScheduleLaws.{EveryScheduleMeets}
+use Rattle.stream_model.proofs.NeverStill.{AllDone}
 use Rattle.stream_model.proofs.Growing.{nothing_is_left, asks_end_last, answers_end_last}
 use Rattle.stream_model.proofs.Meeting.{done_nodes_meet}
 use Rattle.stream_model.proofs.Passing.{AskingHolds, AnsweringHolds, asking_keeps, asking_starts, asks_are_sent, answering_keeps, answering_starts, answers_are_sent, begun_whole}
@@ -133,9 +134,6 @@ linked first last n b x y l = (
   all_got _ _ l.answers y.answers_end
       (subst EndsLast (sym (x.done.answers refl)) (answers_end_last n.summary (node_in n).asked (requests (node_in n).asks_got) (node_in n).answers_got)),
 )
-
-abbrev pub AllDone : List NodeState → Type 0
-AllDone ns = AllByRecursion (λ n. is_done n.phase ≡ true) ns
 
 abbrev pub AllWhole : List NodeState → Type 0
 AllWhole ns = AllByRecursion (λ n. is_whole_in n.phase ≡ true) ns

@@ -13,9 +13,10 @@ use Rattle.stream_model.specs.Passes.{Asking, got_at_start, asking_event, rows_o
 use Rattle.stream_model.specs.Work.{node_work, work_in_all, EndsPastLast, EndsOutside}
 use Rattle.stream_model.specs.Schedules.{Phase, Fresh, Asks, Answers, NodeState, Event, asking_links, answering_links, begun, settled_by, node_event, phase_of_first, event_at, nodes_start, nodes_after, node_moves, moves_at, is_done, is_whole_in, node_in}
 use Rattle.stream_model.specs.ScheduleLaws.{one_if, moves_in, SameWork}
+use Rattle.stream_model.proofs.NeverStill.{AllDone}
 use Rattle.stream_model.proofs.Passing.{begun_whole}
 use Rattle.stream_model.proofs.Moving.{reached, started}
-use Rattle.stream_model.proofs.Running.{PassHolds, RunHolds, AllDone, AllWhole, facts, all_are_done, run_holds, run_starts, kept_summaries, first_summaries, as_many}
+use Rattle.stream_model.proofs.Running.{PassHolds, RunHolds, AllWhole, facts, all_are_done, run_holds, run_starts, kept_summaries, first_summaries, as_many}
 use Rattle.stream_model.proofs.Moves.{AskCount, count_asking, whole_asking_before, row_count, count_answering}
 use Rattle.stream_model.proofs.NodeWork.{seen, done_nodes_work}
 

@@ -92,22 +92,13 @@ rounds (suc n) = both ++ rounds n
 abbrev ended : List NodeState
 ended = nodes_after 1 (rounds 14) (nodes_start (earlier ∷ later ∷ []))
 
-the_rows : flat_map (λ n. (node_in n).rows) ended ≡ one_row
-the_rows = refl
-
-all_done : map (λ n. is_done n.phase) ended ≡ true ∷ true ∷ []
-all_done = refl
-
--- 6 * 2 - 2 + 1 + 5 * 1 + 2 * 1: two nodes, one sink, one location asked, and one source byte for it
-eighteen : moves_in 1 (rounds 14) (nodes_start (earlier ∷ later ∷ [])) ≡ 18
-eighteen = refl
+-- 6 * 2 - 2 + 1 + 5 * 1 + 2 * 1 events move: two nodes, one sink, one location asked, and one source byte for it
+both_done : (flat_map (λ n. (node_in n).rows) ended ≡ one_row) × (map (λ n. is_done n.phase) ended ≡ true ∷ true ∷ []) × (moves_in 1 (rounds 14) (nodes_start (earlier ∷ later ∷ [])) ≡ 18)
+both_done = (refl, refl, refl)
 
 -- where the second node's first growth is refused, both end, and neither is whole
 abbrev refused : List NodeState
 refused = nodes_after 1 (record { node = 1; is_refused = true } ∷ rounds 14) (nodes_start (earlier ∷ later ∷ []))
 
-both_end : map (λ n. is_done n.phase) refused ≡ true ∷ true ∷ []
-both_end = refl
-
-both_broken : map (λ n. is_whole_in n.phase) refused ≡ false ∷ false ∷ []
-both_broken = refl
+both_broken : (map (λ n. is_done n.phase) refused ≡ true ∷ true ∷ []) × (map (λ n. is_whole_in n.phase) refused ≡ false ∷ false ∷ [])
+both_broken = (refl, refl)
