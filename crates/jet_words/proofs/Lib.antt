@@ -1,5 +1,4 @@
 mod Choices
 mod Ranges
 mod Taken
-mod Made
 mod Examples

@@ -1,5 +1,5 @@
 pub mod CommandLine
 pub mod Commands
 pub mod Numbers
-pub mod Made
+pub mod Table
 pub mod Rest

@@ -3,7 +3,7 @@
 //! The command line is a definition, `jet_app` of specs/CommandLine.antt; the command that words stand for is
 //! `command_of` of specs/Commands.antt. proofs/Examples.antt has worked examples, which the checker computes.
 //!
-//! A new subcommand has its arguments in specs/CommandLine.antt and src/command_line.rt, what it stands for in
+//! A new subcommand has its arguments in specs/CommandLine.antt and src/subcommands.rt, what it stands for in
 //! specs/Commands.antt and src/read.rt (one row, where it tells of a query's rows or makes something of a run), and its line
 //! in proofs/Ranges.antt.
 //!
@@ -15,6 +15,7 @@ mod command;
 mod command_line;
 pub mod laws;
 mod read;
+mod subcommands;
 
 pub use clap_command::{Usage, WordsFault};
 pub use command::{Command, Listing, Pipeline, Product};
