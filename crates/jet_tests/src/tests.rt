@@ -3,6 +3,7 @@
 ghost use Rattle.std.specs.Prelude.{◌<◌};
 
 mod bench;
+mod changed_code;
 mod convert;
 mod cores;
 mod decisions;

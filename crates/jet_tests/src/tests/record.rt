@@ -2,6 +2,7 @@
 
 ghost use Rattle.std.specs.Prelude.{◌<◌};
 
+use super::changed_code::{CHANGE, RECORDING as CHANGED_CODE, ROUTINE};
 use super::convert::assert_conversion;
 use super::guests::COPY_CODE;
 use super::runs::{COPIES, ON_TWO, WRITE_ON_TWO};
@@ -284,10 +285,17 @@ const RECORDINGS: &[Recording] = &[
         query: COPY,
         report: "end 0\n",
     },
+    CHANGED_CODE,
 ];
 
 /// The inputs.
-const INPUTS: &[(&str, &[u8])] = &[("in", b"ABCDEFG"), ("four", b"ABCD"), ("other", b"WXYZ")];
+const INPUTS: &[(&str, &[u8])] = &[
+    ("in", b"ABCDEFG"),
+    ("four", b"ABCD"),
+    ("other", b"WXYZ"),
+    ("routine", ROUTINE),
+    ("change", CHANGE),
+];
 
 /// Adds a program, the same for a wider window, and what begins it.
 fn push_programs(rt: &impl Abort, files: &mut Vec<MemoryFile>, program: &[u8]) {
