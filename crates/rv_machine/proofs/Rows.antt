@@ -99,6 +99,13 @@ running_more told wants from was slots more most left here after w next offset s
 pub known_word : (slots : List Slot) (memory : List ℕ) (number : ℕ) (slot : Slot) → AreKnown slots memory → number < length slots → slot ≡ slot_of slots number → IsKnown memory (4 * number) slot
 known_word slots memory number slot known within is = subst (λ (s : Slot). IsKnown memory (4 * number) s) (sym is) (known.each number within)
 
+-- a step that was made at an address was made at the word that is there
+pub at_word : {W : Type 0} (told : Tells W) (pc base number : ℕ) (registers set memory written : List ℕ) (w next : W) (instr : Instr) (made : Made) → pc ≡ pc_of base number
+    → IsMade told (state_of pc registers base memory) w instr (state_of (made_pc pc made) set base written) next
+    → IsMade told (state_of (pc_of base number) registers base memory) w instr (state_of (made_pc (pc_of base number) made) set base written) next
+at_word told pc base number registers set memory written w next instr made e h =
+    subst (λ (at : ℕ). IsMade told (state_of at registers base memory) w instr (state_of (made_pc at made) set base written) next) e h
+
 -- a step of a word that has a slot goes on from there
 pub running_on : {W : Type 0} (told : Tells W) (wants : Wants W) (from : State) (was : W) (slots more : List Slot) (most left base number : ℕ) (registers set memory written : List ℕ) (w next : W) (slot : Slot) (made : Made) → IsRunning told wants from was slots most left (state_of (pc_of base number) registers base memory) w → 0 < left → wants w (pc_of base number) → number < length slots → length slots ≤ 2 ^ 30 → base % 4 ≡ 0 → base < 2 ^ 32 → base + length memory ≤ 2 ^ 32 → slot ≡ slot_of slots number
     → IsMade told (state_of (pc_of base number) registers base memory) w slot.instr (state_of (made_pc (pc_of base number) made) set base written) next → IsChanged memory base made written → AreKnown more written

@@ -9,7 +9,7 @@ ghost use Rattle.rv_machine.specs.Effects.{state_of};
 ghost use Rattle.rv_machine.specs.Running.{PassesBy, IsMade, IsChanged, made_pc, pc_of, IsFollowed};
 
 use crate::decoded::{DecodedWords, Slot, forget, slot_at};
-use crate::state::{HartState, Next, execute};
+use crate::state::{HartState, InstructionAddress, Next, execute};
 use isa::Instr;
 use rv_decode::{Load, Store};
 
@@ -107,20 +107,20 @@ fn make_step<F: Follower>(
     registers: &mut [u32; 32],
     memory: &mut [u8],
     base: u32,
-    pc: u32,
+    at: &InstructionAddress,
     slot: &Slot,
     follower: &mut F,
 ) -> Option<Made>
     requires known { HasBits slot.now }
     requires in_space { base + length memory.old ≤ 2 ^ 32 }
-    ensures made { IfSome result (λ made. IsMade F.told (state_of pc registers.old base memory.old) follower.old
-        slot.now.instr (state_of (made_pc pc made) registers.new base memory.new) follower.new) }
+    ensures made { IfSome result (λ made. IsMade F.told (state_of at.now registers.old base memory.old) follower.old
+        slot.now.instr (state_of (made_pc at.now made) registers.new base memory.new) follower.new) }
     ensures changed { IfSome result (λ made. IsChanged memory.old base made memory.new) }
     ensures registers { result ≡ None → registers.new ≡ registers.old }
     ensures memory { result ≡ None → memory.new ≡ memory.old }
     ensures follower { result ≡ None → follower.new ≡ follower.old }
 {
-    match execute::<F>(registers, memory, base, pc, &slot.instr) {
+    match execute::<F>(registers, memory, base, at, &slot.instr) {
         Next::On => {
             tell(follower, slot);
             Some(Made::On)
@@ -143,7 +143,9 @@ fn make_step<F: Follower>(
 }
 
 /// Makes plain steps in a row from the word of a number on, at most so many, and gives the number of the word after them, and how
-/// many are left. All is lent by parts, so that it stands where the processor keeps it.
+/// many are left. All is lent by parts, so that it stands where the processor keeps it, and each follower has one loop, with the
+/// table of instructions in its midst.
+#[inline(never)]
 fn run<F: Follower>(
     registers: &mut [u32; 32],
     memory: &mut [u8],
@@ -170,12 +172,12 @@ fn run<F: Follower>(
     let mut number = first;
     let mut left = most;
     while left > 0 {
-        let pc = base.wrapping_add(number as u32 * 4);
-        if !follower.wants_step(pc) {
+        let at = InstructionAddress::of_word(base, number as u32);
+        if !follower.wants_step(at.pc()) {
             break;
         }
         let slot = slot_at(slots, number);
-        let Some(made) = make_step(registers, memory, base, pc, slot, follower) else {
+        let Some(made) = make_step(registers, memory, base, &at, slot, follower) else {
             break;
         };
         left -= 1;

@@ -18,7 +18,7 @@ mod instructions;
 mod memory;
 mod start;
 
-pub use instructions::execute;
+pub use instructions::{InstructionAddress, execute};
 pub use memory::{in_window, load};
 
 /// The exception codes of a step that was fetched.
@@ -149,7 +149,7 @@ impl HartState {
             &mut self.registers,
             self.memory.as_mut_slice(),
             self.base,
-            self.pc,
+            &InstructionAddress::of(self.pc),
             instr,
         );
         self.pc = pc_after(self.pc, next);

@@ -1,6 +1,6 @@
 //! What instructions do, over the parts of a hart.
 
-ghost use Rattle.std.specs.Prelude.{◌≡◌, ℕ, ◌+◌, ◌-◌, ◌*◌, ◌/◌, ◌^◌, ◌<◌, ◌≤◌, ◌⊎◌, length, slice_index, Some, IsTrue};
+ghost use Rattle.std.specs.Prelude.{◌≡◌, ℕ, ◌+◌, ◌-◌, ◌*◌, ◌/◌, ◌%◌, ◌^◌, ◌<◌, ◌≤◌, ◌⊎◌, length, slice_index, Some, IsTrue};
 ghost use Rattle.isa.specs.Encodings.{Fits};
 ghost use Rattle.isa.specs.Machine.{effect_of, wrap, as_word, is_aligned, with_register, in_window, low_bytes};
 ghost use Rattle.rv_decode.specs.Accesses.{IsSize};
@@ -13,6 +13,55 @@ use super::arithmetic::{
 use super::{BREAKPOINT, LOAD_OUTSIDE, MISALIGNED_TARGET, Next, STORE_OUTSIDE, is_aligned, memory};
 use isa::Instr;
 use rv_decode::{Load, Store};
+use std::marker::Model;
+
+/// An instruction's address, by the number of its word from an origin on: it is put together only where an instruction needs it.
+/// Contracts see it as the address.
+#[derive(Drop)]
+pub struct InstructionAddress {
+    origin: u32,
+    word: u32,
+}
+
+impl Model for InstructionAddress {
+    ghost use Rattle.std.specs.Prelude.{ℕ, ◌+◌, ◌*◌, ◌%◌, ◌^◌};
+
+    ghost Value = { ℕ };
+
+    ghost view = { λ a. (a.origin + a.word * 4) % 2 ^ 32 };
+}
+
+impl InstructionAddress {
+    /// This address.
+    #[inline(always)]
+    pub fn of(pc: u32) -> InstructionAddress
+        ensures { result ≡ pc }
+    {
+        InstructionAddress {
+            origin: pc,
+            word: 0,
+        }
+    }
+
+    /// The address of a word, by its number in the window from a base on.
+    #[inline(always)]
+    pub fn of_word(base: u32, number: u32) -> InstructionAddress
+        ensures { result ≡ (base + number * 4) % 2 ^ 32 }
+    {
+        InstructionAddress {
+            origin: base,
+            word: number,
+        }
+    }
+
+    /// The address itself.
+    #[inline(always)]
+    pub fn pc(&self) -> u32
+        ensures { result ≡ self.now }
+    {
+        self.origin.wrapping_add(self.word.wrapping_mul(4))
+    }
+}
 
 #[inline(always)]
 fn register(registers: &[u32; 32], number: u8) -> u32
@@ -32,10 +81,10 @@ fn effective_address(registers: &[u32; 32], rs1: u8, imm: i32) -> u32
 
 /// An address relative to the instruction's own.
 #[inline(always)]
-fn relative(pc: u32, imm: i32) -> u32
-    ensures { result ≡ wrap (pc + as_word imm) }
+fn relative(at: &InstructionAddress, imm: i32) -> u32
+    ensures { result ≡ wrap (at.now + as_word imm) }
 {
-    pc.wrapping_add(imm.cast_unsigned())
+    at.pc().wrapping_add(imm.cast_unsigned())
 }
 
 /// A register gets a value, unless it is x0.
@@ -62,15 +111,15 @@ fn set(registers: &mut [u32; 32], rd: u8, value: u32) -> Next
 
 /// The pc gets the target, and a register the address after the instruction.
 #[inline(always)]
-fn jump(registers: &mut [u32; 32], rd: u8, pc: u32, target: u32) -> Next
+fn jump(registers: &mut [u32; 32], rd: u8, at: &InstructionAddress, target: u32) -> Next
     requires { rd < 32 }
     ensures leads { result ≡ landing (is_aligned target) target }
-    ensures sets { registers.new ≡ set_if (is_aligned target) registers.old rd (wrap (pc + 4)) }
+    ensures sets { registers.new ≡ set_if (is_aligned target) registers.old rd (wrap (at.now + 4)) }
 {
     if !is_aligned(target) {
         return Next::Trapped(MISALIGNED_TARGET);
     }
-    set_register(registers, rd, pc.wrapping_add(4));
+    set_register(registers, rd, at.pc().wrapping_add(4));
     Next::To(target)
 }
 
@@ -131,15 +180,15 @@ pub fn execute<C>(
     registers: &mut [u32; 32],
     memory: &mut [u8],
     base: u32,
-    pc: u32,
+    at: &InstructionAddress,
     instr: &Instr,
 ) -> Next
     requires fits { Fits instr.now }
     requires in_space { base + length memory.old ≤ 2 ^ 32 }
-    ensures { Executes (state_of pc registers.old base memory.old) instr.now result
-        (state_of (pc_after pc result) registers.new base memory.new) }
+    ensures { Executes (state_of at.now registers.old base memory.old) instr.now result
+        (state_of (pc_after at.now result) registers.new base memory.new) }
 {
-    by_instruction::<C>(registers, memory, base, pc, instr)
+    by_instruction::<C>(registers, memory, base, at, instr)
 }
 
 /// The same, instruction by instruction.
@@ -148,49 +197,49 @@ fn by_instruction<C>(
     registers: &mut [u32; 32],
     memory: &mut [u8],
     base: u32,
-    pc: u32,
+    at: &InstructionAddress,
     instr: &Instr,
 ) -> Next
     requires fits { Fits instr.now }
     requires in_space { base + length memory.old ≤ 2 ^ 32 }
-    ensures leads { result ≡ next_of (state_of pc registers.old base memory.old) instr.now
-        (effect_of (state_of pc registers.old base memory.old) instr.now) }
-    ensures sets { registers.new ≡ registers_after (state_of pc registers.old base memory.old)
-        (effect_of (state_of pc registers.old base memory.old) instr.now) }
-    ensures writes { memory.new ≡ memory_after (state_of pc registers.old base memory.old)
-        (effect_of (state_of pc registers.old base memory.old) instr.now) }
+    ensures leads { result ≡ next_of (state_of at.now registers.old base memory.old) instr.now
+        (effect_of (state_of at.now registers.old base memory.old) instr.now) }
+    ensures sets { registers.new ≡ registers_after (state_of at.now registers.old base memory.old)
+        (effect_of (state_of at.now registers.old base memory.old) instr.now) }
+    ensures writes { memory.new ≡ memory_after (state_of at.now registers.old base memory.old)
+        (effect_of (state_of at.now registers.old base memory.old) instr.now) }
 {
     match *instr {
         Instr::Lui { rd, imm } => set(registers, rd, imm.cast_unsigned()),
-        Instr::Auipc { rd, imm } => set(registers, rd, relative(pc, imm)),
-        Instr::Jal { rd, imm } => jump(registers, rd, pc, relative(pc, imm)),
+        Instr::Auipc { rd, imm } => set(registers, rd, relative(at, imm)),
+        Instr::Jal { rd, imm } => jump(registers, rd, at, relative(at, imm)),
         Instr::Jalr { rd, rs1, imm } => {
             let target = effective_address(registers, rs1, imm) / 2 * 2;
-            jump(registers, rd, pc, target)
+            jump(registers, rd, at, target)
         }
         Instr::Beq { rs1, rs2, imm } => branch(
             register(registers, rs1) == register(registers, rs2),
-            relative(pc, imm),
+            relative(at, imm),
         ),
         Instr::Bne { rs1, rs2, imm } => branch(
             register(registers, rs1) != register(registers, rs2),
-            relative(pc, imm),
+            relative(at, imm),
         ),
         Instr::Blt { rs1, rs2, imm } => branch(
             is_less(register(registers, rs1), register(registers, rs2)),
-            relative(pc, imm),
+            relative(at, imm),
         ),
         Instr::Bge { rs1, rs2, imm } => branch(
             !is_less(register(registers, rs1), register(registers, rs2)),
-            relative(pc, imm),
+            relative(at, imm),
         ),
         Instr::Bltu { rs1, rs2, imm } => branch(
             register(registers, rs1) < register(registers, rs2),
-            relative(pc, imm),
+            relative(at, imm),
         ),
         Instr::Bgeu { rs1, rs2, imm } => branch(
             register(registers, rs1) >= register(registers, rs2),
-            relative(pc, imm),
+            relative(at, imm),
         ),
         Instr::Lb { rd, rs1, imm } => {
             let address = effective_address(registers, rs1, imm);

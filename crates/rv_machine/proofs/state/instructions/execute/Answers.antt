@@ -4,6 +4,6 @@ use Rattle.rv_machine.proofs.state.instructions.execute.Goals as goal
 
 pub returns : goal.returns
 returns g c =
-    let s = state_of c.args.pc c.args.registers.now c.args.base c.args.memory.now in
+    let s = state_of c.args.at.now c.args.registers.now c.args.base c.args.memory.now in
     let done = c.by_instruction.ensures in
     rw (done.leads, done.sets, done.writes) (does s c.args.instr.now c.requires.fits)
