@@ -1,5 +1,5 @@
 -- How one step turns what locations are labelled with.
-use Rattle.std.specs.Prelude.{◌≡◌, ℕ, nat_lt, Bool, false, if◌then◌else◌, List, [], ◌∷◌, Option, Some, None}
+use Rattle.std.specs.Prelude.{◌≡◌, ℕ, ◌+◌, ◌-◌, nat_lt, Bool, false, if◌then◌else◌, List, [], ◌∷◌, Option, Some, None}
 use Rattle.flow_model.specs.declared.Loc.{Loc}
 use Rattle.flow_model.specs.declared.Loc.TheVariants.{Reg, Mem}
 use Rattle.flow_model.specs.declared.SourceByte.{SourceByte}
@@ -77,6 +77,11 @@ module _ {A M : Type 0} (words : LabelWords A M) where
   -- what a source byte brings in
   abbrev pub introduced : Policy → SourceByte → M
   introduced policy b = if policy.introduces b then words.source b else words.nothing
+
+  -- what the byte that a read received so many bytes behind the one of a number brings in: nothing past the read's end
+  abbrev pub introduced_lane : Policy → CallSeen → ℕ → ℕ → M
+  introduced_lane policy call i k =
+      if nat_lt k (call.length - i) then introduced policy (record { channel = call.channel; offset = call.offset + i + k }) else words.nothing
 
   -- what each location has after n bytes were received from a place on
   abbrev pub received : Policy → CallSeen → ℕ → (Loc → M) → Loc → M

@@ -1,7 +1,7 @@
 //! The labels of the bytes of memory: regions of pages of lines of cells. A line is made as a byte in it is labelled;
 //! until then each of its bytes has the label of what it had at the start.
 
-ghost use Rattle.std.specs.Prelude.{◌≡◌, ◌<◌, ◌≤◌, ◌+◌, ◌*◌, ◌-◌, ◌/◌, ◌%◌, ◌^◌, ℕ, length, slice_index_or, IsTrue, OnOk};
+ghost use Rattle.std.specs.Prelude.{◌≡◌, ◌<◌, ◌≤◌, ◌+◌, ◌*◌, ◌-◌, ◌/◌, ◌%◌, ◌^◌, ℕ, length, slice_index_or, IsTrue, IfSome, OnOk};
 ghost use Rattle.flow_model.specs.declared.Loc.TheVariants.{Mem};
 ghost use Rattle.isa.specs.Machine.{wrap};
 ghost use Rattle.taint_shadow.specs.Labels.{start_label, nothing_label};
@@ -107,13 +107,28 @@ pub(crate) fn word_at(regions: &[Vec<Vec<Vec<Label>>>], place: u32) -> Lanes
     }
 }
 
+/// The labels of the four bytes from a place on, where they lie in one line that was made.
+#[inline(always)]
+pub(crate) fn made_word(regions: &[Vec<Vec<Vec<Label>>>], place: u32) -> Option<Lanes>
+    ensures { IfSome result (λ x. (i : ℕ) → i < 4 → lane_at x i ≡ in_memory regions.now (wrap (place + i))) }
+{
+    let past = place as usize % CELLS + 4;
+    if past <= CELLS && past <= line_of(regions, place).len() {
+        Some(word_at(regions, place))
+    } else {
+        None
+    }
+}
+
 /// Whether the four bytes from a place on are known to have no label: they lie in one line that was made.
 #[inline(always)]
 pub(crate) fn is_clean_word(regions: &[Vec<Vec<Vec<Label>>>], place: u32) -> bool
     ensures { IsTrue result → (i : ℕ) → i < 4 → in_memory regions.now (wrap (place + i)) ≡ nothing_label }
 {
-    let past = place as usize % CELLS + 4;
-    past <= CELLS && past <= line_of(regions, place).len() && word_at(regions, place).are_clean()
+    match made_word(regions, place) {
+        Some(lanes) => lanes.are_clean(),
+        None => false,
+    }
 }
 
 /// The labels of the four bytes of a word that lies in one line.
@@ -243,12 +258,7 @@ fn put_word(regions: &mut Regions, place: u32, size: u8, lanes: Lanes)
 }
 
 /// Labels a byte.
-pub(crate) fn put_byte(
-    alloc: Global,
-    regions: &mut Regions,
-    place: u32,
-    label: Label,
-) -> Result<(), NoMemory>
+fn put_byte(alloc: Global, regions: &mut Regions, place: u32, label: Label) -> Result<(), NoMemory>
     ensures { OnOk result (PutsBytes regions.old.items place 1 (alike label) regions.new.items) }
 {
     if place as usize % CELLS < line_of(regions.as_slice(), place).len() {

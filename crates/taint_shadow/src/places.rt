@@ -202,6 +202,14 @@ impl Places {
         memory::word_at(self.memory.as_slice(), place)
     }
 
+    /// The labels of the four bytes from a place on, where they lie in one line that was made.
+    #[inline(always)]
+    pub(crate) fn made_word(&self, place: u32) -> Option<Lanes>
+        ensures { IfSome result (λ x. (i : ℕ) → i < 4 → lane_at x i ≡ kept self.now (Mem (wrap (place + i)))) }
+    {
+        memory::made_word(self.memory.as_slice(), place)
+    }
+
     /// Whether the four bytes from a place on, round the end of memory, are known to have no label. It is told at one look.
     #[inline(always)]
     pub(crate) fn is_clean_word(&self, place: u32) -> bool
@@ -217,13 +225,6 @@ impl Places {
         ensures { OnOk result (AreKept self.new (with_word place size lanes (kept self.old))) }
     {
         memory::put(self.alloc, &mut self.memory, place, size, lanes)
-    }
-
-    /// Labels a byte anew.
-    pub(crate) fn set_byte(&mut self, place: u32, label: Label) -> Result<(), NoMemory>
-        ensures { OnOk result (AreKept self.new (with_word place 1 (alike label) (kept self.old))) }
-    {
-        memory::put_byte(self.alloc, &mut self.memory, place, label)
     }
 }
 

@@ -1,9 +1,12 @@
 //! How the flow of an instruction turns what locations are labelled with, by its shape.
 
-ghost use Rattle.std.specs.Prelude.{◌≡◌, ◌<◌, ◌≤◌, IfOk, OnOk};
+ghost use Rattle.std.specs.Prelude.{◌≡◌, ◌<◌, ◌≤◌, ◌+◌, ℕ, IfOk, OnOk};
+ghost use Rattle.isa.specs.Machine.{wrap};
+ghost use Rattle.flow_model.specs.declared.Loc.TheVariants.{Mem};
 ghost use Rattle.flow_rule.specs.Shapes.{HasRegisters, HasSizes};
 ghost use Rattle.flow_model.specs.Flow.{lanes, each_lane, all_lanes, shifted_lanes};
-ghost use Rattle.taint_shadow.specs.Lanes.{mixed_label, LanesStand};
+ghost use Rattle.taint_shadow.specs.Lanes.{lane_at, mixed_label, LanesStand};
+ghost use Rattle.taint_shadow.specs.Places.{kept};
 ghost use Rattle.taint_shadow.specs.Steps.{AreStanding, Turns, MakesBased, MakesOver, MakesFrom};
 
 use crate::labels::{Label, Labels};
@@ -245,7 +248,53 @@ fn based<A: Labels>(
     unite_lanes(labels, Lanes::alike(label), lanes)
 }
 
-/// Lane i comes from byte i, and from the lanes of the base; those above from the highest byte, where it fills them.
+/// Lane i comes from byte i, and from the lanes of the base; those above from the highest byte, where it fills them. These are the
+/// labels of the four bytes.
+#[inline(always)]
+fn load_lanes<A: Labels>(
+    labels: &mut A,
+    places: &mut Places,
+    rd: u8,
+    base: u8,
+    place: u32,
+    size: u8,
+    fills: bool,
+    lanes: Lanes,
+) -> Result<(), NoMemory>
+    requires registers { (rd < 32) × (base < 32) }
+    requires size { (1 ≤ size) × (size ≤ 4) }
+    requires lanes { (i : ℕ) → i < 4 → lane_at lanes i ≡ kept places.old (Mem (wrap (place + i))) }
+    requires standing { AreStanding A.words labels.old places.old }
+    ensures { OnOk result
+        (Turns A.words labels.old places.old labels.new places.new (Shape.Load rd base place size fills)) }
+{
+    let lanes = add_base(labels, places, base, size, lanes)?;
+    places.put_lanes(rd, lanes.extended(size, fills));
+    Ok(())
+}
+
+/// The same, where the bytes lie in any lines.
+#[inline(never)]
+fn load_anywhere<A: Labels>(
+    labels: &mut A,
+    places: &mut Places,
+    rd: u8,
+    base: u8,
+    place: u32,
+    size: u8,
+    fills: bool,
+) -> Result<(), NoMemory>
+    requires registers { (rd < 32) × (base < 32) }
+    requires size { (1 ≤ size) × (size ≤ 4) }
+    requires standing { AreStanding A.words labels.old places.old }
+    ensures { OnOk result
+        (Turns A.words labels.old places.old labels.new places.new (Shape.Load rd base place size fills)) }
+{
+    let lanes = places.word(place);
+    load_lanes(labels, places, rd, base, place, size, fills, lanes)
+}
+
+/// The same. Where the base has no label, and the bytes lie in one line that was made, it is done where it is called.
 #[inline(always)]
 pub(crate) fn turn_by_load<A: Labels>(
     labels: &mut A,
@@ -262,59 +311,22 @@ pub(crate) fn turn_by_load<A: Labels>(
     ensures { OnOk result
         (Turns A.words labels.old places.old labels.new places.new (Shape.Load rd base place size fills)) }
 {
-    if places.is_clean(base) && places.is_clean_word(place) {
+    if !places.is_clean(base) {
+        return load_anywhere(labels, places, rd, base, place, size, fills);
+    }
+    let Some(lanes) = places.made_word(place) else {
+        return load_anywhere(labels, places, rd, base, place, size, fills);
+    };
+    if lanes.are_clean() {
         places.clear(rd);
         return Ok(());
     }
-    load_labels(labels, places, rd, base, place, size, fills)
-}
-
-/// The same, where the bytes or the base may have labels.
-#[inline(never)]
-fn load_labels<A: Labels>(
-    labels: &mut A,
-    places: &mut Places,
-    rd: u8,
-    base: u8,
-    place: u32,
-    size: u8,
-    fills: bool,
-) -> Result<(), NoMemory>
-    requires registers { (rd < 32) × (base < 32) }
-    requires size { (1 ≤ size) × (size ≤ 4) }
-    requires standing { AreStanding A.words labels.old places.old }
-    ensures { OnOk result
-        (Turns A.words labels.old places.old labels.new places.new (Shape.Load rd base place size fills)) }
-{
-    let lanes = add_base(labels, places, base, size, places.word(place))?;
-    places.put_lanes(rd, lanes.extended(size, fills));
-    Ok(())
+    load_lanes(labels, places, rd, base, place, size, fills, lanes)
 }
 
 /// Byte i comes from lane i of a register, and from the lanes of the base.
 #[inline(always)]
-pub(crate) fn turn_by_store<A: Labels>(
-    labels: &mut A,
-    places: &mut Places,
-    rs: u8,
-    base: u8,
-    place: u32,
-    size: u8,
-) -> Result<(), NoMemory>
-    requires registers { (rs < 32) × (base < 32) }
-    requires size { (1 ≤ size) × (size ≤ 4) }
-    requires standing { AreStanding A.words labels.old places.old }
-    ensures { OnOk result (Turns A.words labels.old places.old labels.new places.new (Shape.Store rs base place size)) }
-{
-    if places.is_clean(base) && places.is_clean(rs) && places.is_clean_word(place) {
-        return Ok(());
-    }
-    store_labels(labels, places, rs, base, place, size)
-}
-
-/// The same, where the bytes or the registers may have labels.
-#[inline(never)]
-fn store_labels<A: Labels>(
+fn store_lanes<A: Labels>(
     labels: &mut A,
     places: &mut Places,
     rs: u8,
@@ -329,6 +341,48 @@ fn store_labels<A: Labels>(
 {
     let lanes = add_base(labels, places, base, size, places.lanes(rs))?;
     places.set_word(place, size, lanes)
+}
+
+/// The same, where the base may have labels.
+#[inline(never)]
+fn store_by_base<A: Labels>(
+    labels: &mut A,
+    places: &mut Places,
+    rs: u8,
+    base: u8,
+    place: u32,
+    size: u8,
+) -> Result<(), NoMemory>
+    requires registers { (rs < 32) × (base < 32) }
+    requires size { (1 ≤ size) × (size ≤ 4) }
+    requires standing { AreStanding A.words labels.old places.old }
+    ensures { OnOk result (Turns A.words labels.old places.old labels.new places.new (Shape.Store rs base place size)) }
+{
+    store_lanes(labels, places, rs, base, place, size)
+}
+
+/// The same. Where the base has no label, it is done where it is called.
+#[inline(always)]
+pub(crate) fn turn_by_store<A: Labels>(
+    labels: &mut A,
+    places: &mut Places,
+    rs: u8,
+    base: u8,
+    place: u32,
+    size: u8,
+) -> Result<(), NoMemory>
+    requires registers { (rs < 32) × (base < 32) }
+    requires size { (1 ≤ size) × (size ≤ 4) }
+    requires standing { AreStanding A.words labels.old places.old }
+    ensures { OnOk result (Turns A.words labels.old places.old labels.new places.new (Shape.Store rs base place size)) }
+{
+    if !places.is_clean(base) {
+        return store_by_base(labels, places, rs, base, place, size);
+    }
+    if places.is_clean(rs) && places.is_clean_word(place) {
+        return Ok(());
+    }
+    store_lanes(labels, places, rs, base, place, size)
 }
 
 /// Goes on by the flow of an instruction. Each flow that takes more than a copy is a function of its own, so that the loop

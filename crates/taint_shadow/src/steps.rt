@@ -8,9 +8,11 @@ ghost use Rattle.flow_model.specs.Flow.{flow, to_register, nothing, cleared};
 ghost use Rattle.flow_model.specs.Ranges.{IsInRange, IsCallInRange};
 ghost use Rattle.report_model.specs.Query.{policy_of};
 ghost use Rattle.taint_shadow.specs.Labels.{KeepsLabels, Makes};
-ghost use Rattle.taint_shadow.specs.Steps.{AreStanding, Turned, introduced as introduced_by, AfterRead, AfterCall, AfterStep};
+ghost use Rattle.taint_shadow.specs.Lanes.{MakesLanes};
+ghost use Rattle.taint_shadow.specs.Steps.{AreStanding, Turned, introduced as introduced_by, introduced_lane, AfterRead, AfterCall, AfterStep};
 
 use crate::labels::{Label, Labels};
+use crate::lanes::Lanes;
 use crate::places::Places;
 use crate::shapes::{turn_by_load, turn_by_shape, turn_by_store};
 use flow_model::{CallSeen, Rule, StepSeen};
@@ -31,7 +33,57 @@ fn introduced<A: Labels>(labels: &mut A, byte: SourceByte, query: &Query) -> Res
     }
 }
 
-/// Labels the bytes that a read received with what they bring in.
+/// The label of what a byte that a read received brings in: the one so many bytes behind the one of a number. Past the read's end
+/// that is nothing.
+#[inline(always)]
+fn introduced_behind<A: Labels>(
+    labels: &mut A,
+    call: &CallSeen,
+    number: u32,
+    behind: u32,
+    query: &Query,
+) -> Result<Label, NoMemory>
+    requires in_range { IsCallInRange (Some call.now) }
+    requires number { number < call.now.length }
+    ensures { IfOk result (Makes A.words labels.old
+        (introduced_lane A.words (policy_of query.now) call.now number behind) labels.new) }
+{
+    if behind >= call.length - number {
+        return Ok(Label::nothing());
+    }
+    let byte = SourceByte {
+        channel: call.channel as u8,
+        offset: call.offset + number + behind,
+    };
+    introduced(labels, byte, query)
+}
+
+/// The labels of what four bytes that a read received bring in, from the one of a number on.
+#[inline(always)]
+fn introduced_word<A: Labels>(
+    labels: &mut A,
+    call: &CallSeen,
+    number: u32,
+    query: &Query,
+) -> Result<Lanes, NoMemory>
+    requires in_range { IsCallInRange (Some call.now) }
+    requires number { number < call.now.length }
+    ensures { IfOk result (MakesLanes A.words labels.old 4
+        (introduced_lane A.words (policy_of query.now) call.now number) labels.new) }
+{
+    let first = introduced_behind(labels, call, number, 0, query)?;
+    let second = introduced_behind(labels, call, number, 1, query)?;
+    let third = introduced_behind(labels, call, number, 2, query)?;
+    let fourth = introduced_behind(labels, call, number, 3, query)?;
+    Ok(Lanes {
+        first,
+        second,
+        third,
+        fourth,
+    })
+}
+
+/// Labels the bytes that a read received with what they bring in, four at a time.
 fn receive<A: Labels>(
     labels: &mut A,
     places: &mut Places,
@@ -43,13 +95,12 @@ fn receive<A: Labels>(
     ensures { OnOk result
         (AfterRead A.words (policy_of query.now) call.now labels.old places.old labels.new places.new) }
 {
-    for i in 0..call.length {
-        let byte = SourceByte {
-            channel: call.channel as u8,
-            offset: call.offset + i,
-        };
-        let label = introduced(labels, byte, query)?;
-        places.set_byte(call.place + i, label)?;
+    let mut number = 0;
+    while number < call.length {
+        let lanes = introduced_word(labels, call, number, query)?;
+        let size = (call.length - number).min(4);
+        places.set_word(call.place + number, size as u8, lanes)?;
+        number += size;
     }
     Ok(())
 }
@@ -105,9 +156,10 @@ fn turn_by_call<A: Labels>(
 }
 
 /// Goes on by one step that is no call: whatever the locations' labels meant before it, they mean what its instruction makes of
-/// that after it. `place` is the effective address of a load or a store.
+/// that after it. `place` is the effective address of a load or a store. Each caller, named by `C`, has a copy of its own, so
+/// that a loop of steps has it in its midst.
 #[inline(always)]
-pub fn plain_step<A: Labels>(
+pub fn plain_step<A: Labels, C>(
     labels: &mut A,
     places: &mut Places,
     instr: &Instr,
@@ -201,7 +253,7 @@ pub fn step<A: Labels>(
         (AfterStep A.words (policy_of query.now) step.now labels.old places.old labels.new places.new) }
 {
     match &step.call {
-        None => plain_step(labels, places, &step.instr, step.place, query.rule()),
+        None => { plain_step::<A, Places>(labels, places, &step.instr, step.place, query.rule()) }
         Some(call) => turn_by_call(labels, places, call, query),
     }
 }

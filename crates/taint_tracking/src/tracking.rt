@@ -89,7 +89,13 @@ impl<'q, L: Labels + Drop> Tracking<'q, L> {
         ensures turned { OnOk result (IsTurned L.words self.old instr.now 0 self.new) }
     {
         let rule = self.query.rule();
-        taint_shadow::plain_step(&mut self.labels, &mut self.places, instr, 0, rule)
+        taint_shadow::plain_step::<L, Tracking<'q, L>>(
+            &mut self.labels,
+            &mut self.places,
+            instr,
+            0,
+            rule,
+        )
     }
 
     /// Turns the labels by a load, and looks at no point. It gives up with NoMemory alone.

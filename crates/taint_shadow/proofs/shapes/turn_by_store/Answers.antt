@@ -20,7 +20,7 @@ returns-then-is_clean_word g c =
     let size = c.args.size in
     let small = c.requires.registers in
     memory_turned words a a p p c.requires.standing (keeps_itself words a) place size (λ i. with_base Index base (lane r i)) clean c.ranges.place.fits c.requires.size.1
-    (stored words laws a p c.requires.standing a r base size clean clean small.0 small.1 c.requires.size.1 (λ i h. alike_at nothing_label i h ∙ sym (c.if-is_clean-2.ensures refl i h))
-    (no_labels words laws a p c.requires.standing base size small.1 (c.if-is_clean.ensures refl) c.requires.size.1))
+    (stored words laws a p c.requires.standing a r base size clean clean small.0 small.1 c.requires.size.1 (λ i h. alike_at nothing_label i h ∙ sym (c.if-is_clean.ensures refl i h))
+    (no_labels words laws a p c.requires.standing base size small.1 (c.if-not-is_clean.ensures refl) c.requires.size.1))
     (λ i h. based_here base (lane r i) small.1 (lane_here r i small.0 (omega (arith, h, c.requires.size.1))))
     (bytes_clean p place size c.ranges.place.fits c.requires.size.1 (c.if-is_clean_word.ensures refl))

@@ -5,7 +5,7 @@ use Rattle.flow_model.specs.Flow.{lane, with_base}
 use Rattle.taint_shadow.proofs.Meaning.{lane_here, lanes_stand}
 use Rattle.taint_shadow.proofs.Flows.{based_here, stored}
 use Rattle.taint_shadow.proofs.Targets.{memory_turned}
-use Rattle.taint_shadow.proofs.shapes.store_labels.Goals as goal
+use Rattle.taint_shadow.proofs.shapes.store_lanes.Goals as goal
 
 pub add_base-requires-clause-lanes : goal.add_base-requires-clause-lanes
 add_base-requires-clause-lanes g c = lanes_stand g.A.Labels.words g.met.A.Labels.laws _ _ c.requires.standing c.args.rs _ c.requires.registers.0 c.lanes.ensures
