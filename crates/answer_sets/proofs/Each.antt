@@ -1,48 +1,48 @@
 -- Rows, one by one.
-use Rattle.std.proofs.Common.{◌≡◌, ℕ, zero, suc, ◌-◌, ◌<◌, List, [], ◌∷◌, map, take, length, get_or, slice_get, ◌==◌, true, Bor, refl, ap, ap₂, sym, arith, ◌∙◌}
+use Rattle.std.proofs.Common.{◌≡◌, ℕ, ◌-◌, ◌<◌, List, [], ◌∷◌, map, take, length, get_or, slice_get, ◌==◌, true, Bor, refl, ap, sym, arith, ◌∙◌}
 use Rattle.std.specs.Prelude.{Option, Some, None, IfSome}
 use Rattle.std.specs.Option.{option_copied, option_map}
 use Rattle.std.proofs.lemmas.Grind.{common_steps}
 use Rattle.std.proofs.lemmas.List.{length-take-le, get_or-take}
-use Rattle.std.proofs.lemmas.Option.{slice_get_within, slice_get_read, get_or_from_slice_get}
+use Rattle.std.proofs.lemmas.Option.{slice_get_within, slice_get_read, slice_get-map, slice_get-get_or, get_or_from_slice_get}
 use Rattle.flow_model.specs.declared.Loc.{Loc}
 use Rattle.flow_model.specs.declared.SourceByte.{SourceByte}
-use Rattle.flow_model.specs.declared.SinkPoint.{SinkPoint}
 use Rattle.report_model.specs.Rows.{Row}
-use Rattle.epoch_model.specs.Summary.{SinkTerms}
 use Rattle.epoch_model.specs.Join.{resolved, resolved_row}
+use Rattle.merge_log.specs.Log.{AreSets}
+use Rattle.taint_shadow.specs.Labels.{kind_of}
+use Rattle.taint_shadow.specs.declared.labels.SinkLabel.{SinkLabel}
+use Rattle.source_labels.specs.declared.nodes.Nodes.{Nodes}
+use Rattle.source_labels.specs.Laws.{terms_ascend}
+use Rattle.source_labels.specs.Words.{log_of, node_words}
+use Rattle.epoch_summary.specs.Summaries.{named}
 
 -- a list of no length has no member
 pub none_in : {X : Type 0} (xs : List X) → (length xs == 0) ≡ true → xs ≡ []
 none_in [] e = refl
 none_in (x ∷ xs) e = absurd (grind (arith, common_steps))
 
--- the row of a sink, by its name and the source bytes of its terms
-pub row_at : (before : Loc → List SourceByte) (ks : List SinkTerms) (i : ℕ) (p : SinkPoint) (sources : List SourceByte)
-    → slice_get (map (λ k. k.name) ks) i ≡ Some p → option_map (resolved before) (slice_get (map (λ k. k.terms) ks) i) ≡ Some sources
-    → slice_get (map (resolved_row before) ks) i ≡ Some (record { sink = p; sources = sources })
-row_at before [] i p sources e f = cc
-row_at before (k ∷ ks) zero p sources e f =
-    let name : k.name ≡ p = cc in
-    let all : resolved before k.terms ≡ sources = cc in
-    let make : SinkPoint → List SourceByte → Row = λ q bs. record { sink = q; sources = bs } in
-    ap₂ (λ (q : SinkPoint) (bs : List SourceByte). Some (make q bs)) name all
-row_at before (k ∷ ks) (suc i) p sources e f = row_at before ks i p sources e f
+module _ (before : Loc → List SourceByte) (nodes : Nodes) (sinks : List SinkLabel) where
+  nth_row : (i : ℕ) (d : SinkLabel) → i < length sinks → slice_get (map (resolved_row before) (map (named nodes) sinks)) i ≡ Some (resolved_row before (named nodes (get_or sinks i d)))
+  nth_row i d inside =
+      slice_get-map (resolved_row before) (map (named nodes) sinks) i
+      ∙ ap (option_map (resolved_row before)) (slice_get-map (named nodes) sinks i ∙ ap (option_map (named nodes)) (slice_get-get_or sinks i d inside))
 
-sources_at : (before : Loc → List SourceByte) (ks : List SinkTerms) (i : ℕ)
-    → option_map (resolved before) (slice_get (map (λ k. k.terms) ks) i) ≡ option_map (λ row. row.sources) (slice_get (map (resolved_row before) ks) i)
-sources_at before [] i = refl
-sources_at before (k ∷ ks) zero = refl
-sources_at before (k ∷ ks) (suc i) = sources_at before ks i
+  -- the row of a sink, by its name and the source bytes of its label
+  pub row_at : (i : ℕ) (d : SinkLabel) (sources : List SourceByte) → i < length sinks → sources ≡ resolved before (node_words.means nodes (get_or sinks i d).label)
+      → slice_get (map (resolved_row before) (map (named nodes) sinks)) i ≡ Some (record { sink = (get_or sinks i d).name; sources = sources })
+  row_at i d sources inside is = nth_row i d inside ∙ ap (λ (bs : List SourceByte). Some (record { sink = (get_or sinks i d).name; sources = bs })) (sym is)
 
--- the row of a sink that has the terms of the one before it, by the row of that
-pub row_again : (before : Loc → List SourceByte) (ks : List SinkTerms) (i : ℕ) (p : SinkPoint) (last : Row)
-    → slice_get (map (λ k. k.name) ks) i ≡ Some p → slice_get (map (λ k. k.terms) ks) i ≡ slice_get (map (λ k. k.terms) ks) (i - 1)
-    → slice_get (map (resolved_row before) ks) (i - 1) ≡ Some last
-    → slice_get (map (resolved_row before) ks) i ≡ Some (record { sink = p; sources = last.sources })
-row_again before ks i p last name same at =
-    row_at before ks i p last.sources name
-    (ap (option_map (resolved before)) same ∙ sources_at before ks (i - 1) ∙ ap (option_map (λ row. row.sources)) at)
+  -- the source bytes of a row that was made are those of its sink's label
+  pub row_has : (i : ℕ) (d : SinkLabel) (row : Row) → i < length sinks → slice_get (map (resolved_row before) (map (named nodes) sinks)) i ≡ Some row
+      → row.sources ≡ resolved before (node_words.means nodes (get_or sinks i d).label)
+  row_has i d row inside made =
+      let same : Some row ≡ Some (resolved_row before (named nodes (get_or sinks i d))) = sym made ∙ nth_row i d inside in
+      let is : row ≡ resolved_row before (named nodes (get_or sinks i d)) = cc in
+      ap (λ (r : Row). r.sources) is
+
+pub sets_of_label : (nodes : Nodes) (sinks : List SinkLabel) (i : ℕ) (d : SinkLabel) → AreSets (node_words.means nodes (get_or sinks i d).label)
+sets_of_label nodes sinks i d = terms_ascend (log_of nodes) (kind_of (get_or sinks i d).label)
 
 -- the last of the first i is the one before that of number i
 last_taken : {X : Type 0} (xs firsts : List X) (i : ℕ) (x : X) → firsts ≡ take i xs → i < length xs → slice_get firsts (length firsts - 1) ≡ Some x

@@ -7,7 +7,6 @@ ghost use Rattle.flow_model.specs.declared.SourceByte.{SourceByte as Source};
 ghost use Rattle.source_runs.specs.Runs.{all_bytes};
 ghost use Rattle.merge_log.specs.Log.{AreSets, start_term};
 ghost use Rattle.epoch_model.specs.Join.{answer_to, resolved as resolved_terms};
-ghost use Rattle.epoch_summary.specs.Words.{as_terms};
 ghost use Rattle.answer_sets.specs.Gathered.{is_at_one_of, AreGathered};
 
 use crate::answers::{Answers, LARGE};
@@ -34,7 +33,7 @@ pub fn resolved(
 ) -> Result<Vec<SourceByte>, NoMemory>
     requires { AreSets terms.now }
     ensures value { IfOk result (λ all.
-        all.items ≡ resolved_terms (answer_to asked.now answers.now) (as_terms terms.now)) }
+        all.items ≡ resolved_terms (answer_to asked.now answers.now) terms.now) }
     ensures ascending { IfOk result (λ all. Ascends source_cmp all.items) }
 {
     answers.form();

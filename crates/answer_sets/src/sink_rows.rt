@@ -1,20 +1,21 @@
 //! The rows of an epoch.
 
-ghost use Rattle.std.specs.Prelude.{◌≡◌, ◌<◌, ◌-◌, Some, length, slice_get, IfOk, IfSome};
-ghost use Rattle.epoch_model.specs.Join.{answer_to, resolved as resolved_terms, rows_of};
+ghost use Rattle.std.specs.Prelude.{◌≡◌, ◌<◌, ◌-◌, Some, length, map, slice_get, IfOk, IfSome};
+ghost use Rattle.epoch_model.specs.Join.{answer_to, resolved as resolved_terms, resolved_row, rows_of};
 ghost use Rattle.merge_log.specs.Log.{AreSets};
-ghost use Rattle.epoch_summary.specs.Ahead.{IsAhead};
-ghost use Rattle.epoch_summary.specs.Summaries.{summary_of};
-ghost use Rattle.epoch_summary.specs.Words.{as_terms};
+ghost use Rattle.source_labels.specs.Words.{HaveNodesIn, log_of};
+ghost use Rattle.terms_ahead.specs.Ahead.{IsOfLog};
+ghost use Rattle.epoch_summary.specs.Summaries.{named, summary_of};
 
 use crate::answers::Answers;
 use crate::resolving::{answer, only_start, resolved};
-use epoch_summary::{Asked, Summary, TermsAhead};
+use epoch_summary::{Asked, Nodes, Summary, TermsAhead};
 use merge_log::TermsReader;
 use no_memory::NoMemory;
 use sink_collect::SinkSet;
 use source_ranges::SourceSet;
 use std::alloc::Global;
+use taint_shadow::SinkLabel;
 
 /// The rows of an epoch that asked this and had these answers, in the order of its sinks. It fails only where there is
 /// no memory.
@@ -27,12 +28,36 @@ pub fn rows(
 ) -> Result<Vec<SinkSet>, NoMemory>
     ensures { IfOk result (λ rows. rows.items ≡ rows_of (summary_of summary.now) (answer_to asked.now answers.now)) }
 {
-    let mut rows = Vec::with_capacity(alloc, summary.sink_count())?;
+    rows_of_sinks(
+        alloc,
+        reader,
+        summary.nodes(),
+        summary.sinks(),
+        asked,
+        answers,
+    )
+}
+
+/// The rows of sinks that have labels, in their order, where this was asked and had these answers. It fails only where there
+/// is no memory.
+pub fn rows_of_sinks(
+    alloc: Global,
+    reader: &mut TermsReader,
+    nodes: &Nodes,
+    sinks: &[SinkLabel],
+    asked: &Asked,
+    answers: &Answers,
+) -> Result<Vec<SinkSet>, NoMemory>
+    requires { HaveNodesIn nodes.now sinks.now }
+    ensures { IfOk result (λ rows.
+        rows.items ≡ map (resolved_row (answer_to asked.now answers.now)) (map (named nodes.now) sinks.now)) }
+{
+    let mut rows = Vec::with_capacity(alloc, sinks.len())?;
     let mut ahead = TermsAhead::new(alloc);
-    for number in 0..summary.sink_count() {
+    for number in 0..sinks.len() {
         let before = rows.last();
         let next = row(
-            alloc, &mut ahead, reader, summary, number, before, asked, answers,
+            alloc, &mut ahead, reader, nodes, sinks, number, before, asked, answers,
         )?;
         rows.push(next)?;
     }
@@ -40,34 +65,37 @@ pub fn rows(
 }
 
 /// The row of the sink of this number, made after that of the one before it: with a copy of its source bytes where the
-/// two share their terms.
+/// two have one label.
 fn row(
     alloc: Global,
     ahead: &mut TermsAhead,
     reader: &mut TermsReader,
-    summary: &Summary,
+    nodes: &Nodes,
+    sinks: &[SinkLabel],
     number: usize,
     before: Option<&SinkSet>,
     asked: &Asked,
     answers: &Answers,
 ) -> Result<SinkSet, NoMemory>
-    requires inside { number < length (summary_of summary.now).sinks }
-    requires ahead { IsAhead summary.now ahead.old }
+    requires stand { HaveNodesIn nodes.now sinks.now }
+    requires inside { number < length sinks.now }
+    requires ahead { IsOfLog (log_of nodes.now) ahead.old }
     requires before { IfSome before (λ last.
-        slice_get (rows_of (summary_of summary.now) (answer_to asked.now answers.now)) (number - 1) ≡ Some last.now) }
-    ensures ahead { IsAhead summary.now ahead.new }
+        slice_get (map (resolved_row (answer_to asked.now answers.now)) (map (named nodes.now) sinks.now)) (number - 1) ≡ Some last.now) }
+    ensures ahead { IsOfLog (log_of nodes.now) ahead.new }
     ensures row { IfOk result (λ row.
-        slice_get (rows_of (summary_of summary.now) (answer_to asked.now answers.now)) number ≡ Some row) }
+        slice_get (map (resolved_row (answer_to asked.now answers.now)) (map (named nodes.now) sinks.now)) number ≡ Some row) }
 {
+    let SinkLabel { name, label } = sinks[number];
     if let Some(last) = before {
-        if summary.shares_terms(number) {
+        if number > 0 && sinks[number - 1].label == label {
             let sources = last.sources().copied(alloc)?;
-            return Ok(SinkSet::new(summary.sink(number), sources));
+            return Ok(SinkSet::new(name, sources));
         }
     }
-    summary.sink_terms_ahead(ahead, reader, number)?;
+    ahead.read_sink(nodes, label, sinks, number, reader)?;
     let sources = sources_of(alloc, reader, asked, answers)?;
-    Ok(SinkSet::new(summary.sink(number), sources))
+    Ok(SinkSet::new(name, sources))
 }
 
 /// The source bytes of terms, which are sets: their runs alone, or the answer to one location, where that is all.
@@ -78,7 +106,7 @@ fn sources_of(
     answers: &Answers,
 ) -> Result<SourceSet, NoMemory>
     requires { AreSets terms.now }
-    ensures { IfOk result (λ all. all ≡ resolved_terms (answer_to asked.now answers.now) (as_terms terms.now)) }
+    ensures { IfOk result (λ all. all ≡ resolved_terms (answer_to asked.now answers.now) terms.now) }
 {
     if terms.starts().is_empty() {
         return SourceSet::of_runs(alloc, terms.runs());

@@ -136,7 +136,7 @@ impl<'q> DecisionTracking<'q> {
         ensures turned { OnOk result (IsTurned step.now self.old self.new) }
     {
         match &step.call {
-            None => plain_step(
+            None => plain_step::<SourceLabels, DecisionTracking<'q>>(
                 &mut self.labels,
                 &mut self.places,
                 &step.instr,

@@ -1,4 +1,3 @@
-mod Words
-mod Named
+pub mod Named
 mod Alike
 mod Held

@@ -1,4 +1,4 @@
--- A sink by its number.
+-- A sink by its number. Crates above cite these lemmas.
 use Rattle.std.proofs.Common.{◌≡◌, ℕ, ◌<◌, length, get_or, slice_get, List, map, refl, ap, sym, ◌∙◌, arith}
 use Rattle.std.specs.Prelude.{Some}
 use Rattle.std.specs.Option.{option_map}
@@ -7,8 +7,8 @@ use Rattle.std.proofs.lemmas.List.{length-map}
 use Rattle.epoch_model.specs.Summary.{SinkTerms}
 use Rattle.taint_shadow.specs.declared.labels.Label.{Label}
 use Rattle.taint_shadow.specs.declared.labels.SinkLabel.{SinkLabel}
-use Rattle.epoch_summary.specs.declared.labels.Nodes.{Nodes}
-use Rattle.epoch_summary.specs.Words.{label_words}
+use Rattle.source_labels.specs.declared.nodes.Nodes.{Nodes}
+use Rattle.source_labels.specs.Words.{node_words}
 use Rattle.epoch_summary.specs.Summaries.{named}
 
 pub nth : {X : Type 0} (v : SinkTerms → X) (nodes : Nodes) (sinks : List SinkLabel) (i : ℕ) (x : SinkLabel) → i < length (map (named nodes) sinks) → x ≡ get_or sinks i x
@@ -24,5 +24,5 @@ pub same_terms : (nodes : Nodes) (sinks : List SinkLabel) (i k : ℕ) (x y : Sin
     → slice_get (map (λ t. t.terms) (map (named nodes) sinks)) i ≡ slice_get (map (λ t. t.terms) (map (named nodes) sinks)) k
 same_terms nodes sinks i k x y first second at_first at_second same =
     nth (λ t. t.terms) nodes sinks i x first at_first
-    ∙ ap (λ (n : Label). Some (label_words.means nodes n)) same
+    ∙ ap (λ (n : Label). Some (node_words.means nodes n)) same
     ∙ sym (nth (λ t. t.terms) nodes sinks k y second at_second)

@@ -1,4 +1,2 @@
-pub mod Words
-pub mod Laws
 pub mod Summaries
 pub mod Ahead

@@ -5,22 +5,30 @@ use Rattle.epoch_model.specs.Summary.{Terms, SinkTerms, Summary as EpochSummary}
 use Rattle.taint_shadow.specs.Steps.{meaning_at}
 use Rattle.taint_shadow.specs.declared.labels.SinkLabel.{SinkLabel}
 use Rattle.taint_shadow.specs.declared.places.Places.{Places}
-use Rattle.epoch_summary.specs.declared.labels.Nodes.{Nodes}
+use Rattle.source_labels.specs.declared.nodes.Nodes.{Nodes}
 use Rattle.epoch_summary.specs.declared.summary.Summary.{Summary}
-use Rattle.epoch_summary.specs.Words.{label_words}
+use Rattle.source_labels.specs.Words.{node_words}
 
 -- the number of its epoch
 abbrev pub number_of : Summary → ℕ
 number_of e = e.number
 
+-- the labels that its locations and its sinks have
+abbrev pub nodes_of : Summary → Nodes
+nodes_of e = e.nodes
+
+-- its sinks in the order of the run, each with its label
+abbrev pub sinks_of : Summary → List SinkLabel
+sinks_of e = e.sinks.items
+
 -- a sink with the terms of its label
 abbrev pub named : Nodes → SinkLabel → SinkTerms
-named nodes k = record { name = k.name; terms = label_words.means nodes k.label }
+named nodes k = record { name = k.name; terms = node_words.means nodes k.label }
 
 -- the terms of each location and of each sink: those of the labels that are kept
 abbrev pub summary_by : Nodes → Places → List SinkLabel → EpochSummary
 summary_by nodes places sinks = record {
-  ends = λ l. meaning_at label_words nodes places l;
+  ends = λ l. meaning_at node_words nodes places l;
   sinks = map (named nodes) sinks;
 }
 

@@ -4,14 +4,13 @@ ghost use Rattle.std.specs.Prelude.{◌≡◌, ◌<◌, ◌-◌, Some, length, s
 ghost use Rattle.flow_model.specs.Ranges.{IsLocation};
 ghost use Rattle.merge_log.specs.Log.{AreSets};
 ghost use Rattle.taint_shadow.specs.Steps.{AreStanding};
-ghost use Rattle.terms_ahead.specs.Ahead.{HaveNodesIn};
-ghost use Rattle.epoch_summary.specs.Words.{label_words, as_terms};
+ghost use Rattle.source_labels.specs.Words.{HaveNodesIn, node_words};
 
-use crate::labels::Nodes;
 use flow_model::{Loc, SinkPoint};
-use merge_log::{Node, TermsReader};
+use merge_log::TermsReader;
 use no_memory::NoMemory;
-use taint_shadow::{LabelKind, Places, SinkLabel};
+use source_labels::Nodes;
+use taint_shadow::{Places, SinkLabel};
 use terms_ahead::TermsAhead;
 
 /// What the analysis of an epoch found: the terms of each location at the epoch's end, and the epoch's sinks with their
@@ -22,19 +21,19 @@ pub struct Summary {
     pub(crate) nodes: Nodes,
     pub(crate) places: Places,
     pub(crate) sinks: Vec<SinkLabel>,
-    ghost standing: { AreStanding label_words nodes places },
-    ghost labelled: { HaveNodesIn nodes.log sinks.items },
+    ghost standing: { AreStanding node_words nodes places },
+    ghost labelled: { HaveNodesIn nodes sinks.items },
 }
 
 impl Summary {
-    ghost use Rattle.epoch_summary.specs.Summaries.{number_of, summary_of, summary_by, names_of, terms_of};
+    ghost use Rattle.epoch_summary.specs.Summaries.{number_of, summary_of, summary_by, nodes_of, sinks_of, names_of, terms_of};
     ghost use Rattle.epoch_summary.specs.Ahead.{IsAhead};
 
     /// The summary of the epoch of this number, of the labels that its locations have at its end, and of its sinks in the
     /// order of the run, each with its label.
     pub fn new(number: u32, nodes: Nodes, places: Places, sinks: Vec<SinkLabel>) -> Summary
-        requires standing { AreStanding label_words nodes places }
-        requires labelled { HaveNodesIn nodes.log sinks.items }
+        requires standing { AreStanding node_words nodes places }
+        requires labelled { HaveNodesIn nodes sinks.items }
         ensures number { number_of result ≡ number }
         ensures summary { summary_of result ≡ summary_by nodes places sinks.items }
     {
@@ -53,11 +52,26 @@ impl Summary {
         self.number
     }
 
+    /// The labels that its locations and its sinks have.
+    pub fn nodes(&self) -> &Nodes
+        ensures { result.now ≡ nodes_of self.now }
+    {
+        &self.nodes
+    }
+
+    /// Its sinks in the order of the run, each with its label.
+    pub fn sinks(&self) -> &[SinkLabel]
+        ensures sinks { result.now ≡ sinks_of self.now }
+        ensures stand { HaveNodesIn (nodes_of self.now) result.now }
+    {
+        &self.sinks
+    }
+
     /// Reads the terms of a location at the epoch's end: the location itself where the epoch doesn't touch it. When out
     /// of memory, the reader may have read part of them, and can go on with any label.
     pub fn end_terms(&self, reader: &mut TermsReader, loc: Loc) -> Result<(), NoMemory>
         requires { IsLocation loc }
-        ensures read { OnOk result (as_terms reader.new ≡ (summary_of self.now).ends loc) }
+        ensures read { OnOk result (reader.new ≡ (summary_of self.now).ends loc) }
         ensures ascending { OnOk result (AreSets reader.new) }
     {
         self.nodes.read(self.places.get(loc), reader)
@@ -74,21 +88,10 @@ impl Summary {
         requires location { IsLocation loc }
         requires ahead { IsAhead self.now ahead.old }
         ensures ahead { IsAhead self.now ahead.new }
-        ensures read { OnOk result (as_terms reader.new ≡ (summary_of self.now).ends loc) }
+        ensures read { OnOk result (reader.new ≡ (summary_of self.now).ends loc) }
         ensures ascending { OnOk result (AreSets reader.new) }
     {
-        let label = self.places.get(loc);
-        match label.kind() {
-            LabelKind::Node(node) => ahead.read_end(
-                &self.nodes.log,
-                node as Node,
-                &self.places,
-                loc,
-                reader,
-            ),
-            LabelKind::Start(start) => reader.read_start(start),
-            LabelKind::Run(run) => reader.read_run(run),
-        }
+        ahead.read_end(&self.nodes, &self.places, loc, reader)
     }
 
     /// Whether two locations have one label at the epoch's end, and so the same terms. Where it answers no the terms may be
@@ -131,7 +134,7 @@ impl Summary {
     /// go on with any label.
     pub fn sink_terms(&self, reader: &mut TermsReader, number: usize) -> Result<(), NoMemory>
         requires { number < length (summary_of self.now).sinks }
-        ensures read { OnOk result (slice_get (terms_of self.now) number ≡ Some (as_terms reader.new)) }
+        ensures read { OnOk result (slice_get (terms_of self.now) number ≡ Some reader.new) }
         ensures ascending { OnOk result (AreSets reader.new) }
     {
         self.nodes.read(self.sinks[number].label, reader)
@@ -148,20 +151,10 @@ impl Summary {
         requires inside { number < length (summary_of self.now).sinks }
         requires ahead { IsAhead self.now ahead.old }
         ensures ahead { IsAhead self.now ahead.new }
-        ensures read { OnOk result (slice_get (terms_of self.now) number ≡ Some (as_terms reader.new)) }
+        ensures read { OnOk result (slice_get (terms_of self.now) number ≡ Some reader.new) }
         ensures ascending { OnOk result (AreSets reader.new) }
     {
         let label = self.sinks[number].label;
-        match label.kind() {
-            LabelKind::Node(node) => ahead.read_sink(
-                &self.nodes.log,
-                node as Node,
-                &self.sinks,
-                number,
-                reader,
-            ),
-            LabelKind::Start(loc) => reader.read_start(loc),
-            LabelKind::Run(run) => reader.read_run(run),
-        }
+        ahead.read_sink(&self.nodes, label, &self.sinks, number, reader)
     }
 }

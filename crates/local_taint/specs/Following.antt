@@ -11,9 +11,9 @@ use Rattle.taint_tracking.specs.declared.tracking.Tracked.{Tracked}
 use Rattle.taint_tracking.specs.declared.tracking.Tracking.{Tracking}
 use Rattle.taint_tracking.specs.Following.{IsOfEpoch}
 use Rattle.taint_tracking.specs.Watched.{Tracks}
-use Rattle.epoch_summary.specs.declared.labels.Nodes.{Nodes}
+use Rattle.source_labels.specs.declared.nodes.Nodes.{Nodes}
 use Rattle.epoch_summary.specs.declared.summary.Summary.{Summary}
-use Rattle.epoch_summary.specs.Words.{label_words}
+use Rattle.source_labels.specs.Words.{node_words}
 use Rattle.epoch_summary.specs.Summaries.{summary_of}
 -- each of the n steps from time s on is in range
 pub use Rattle.taint_tracking.specs.Following.{AreInRange}
@@ -24,11 +24,11 @@ terms_from policy trace first time = terms policy trace first (time - first)
 
 -- the epoch's n steps from where the cursor stood on were tracked
 abbrev pub TracksFrom : CursorAt → ℕ → Option (Tracking Nodes) → Option (Tracking Nodes) → Type 0
-TracksFrom cursor n = Tracks label_words (trace_of cursor.job) cursor.time (cursor.time + n)
+TracksFrom cursor n = Tracks node_words (trace_of cursor.job) cursor.time (cursor.time + n)
 
 -- it is the summary of what was tracked
 abbrev pub IsSummaryOf : Tracked Nodes → Summary → Type 0
 IsSummaryOf t e =
     (q : Query) (trace : List StepSeen) (first time : ℕ)
-    → IsOfEpoch label_words q trace first time (terms_from (policy_of q) trace first) t
+    → IsOfEpoch node_words q trace first time (terms_from (policy_of q) trace first) t
     → IsSummary q trace first (time - first) (summary_of e)

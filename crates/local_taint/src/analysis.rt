@@ -6,7 +6,7 @@ ghost use Rattle.epoch_model.specs.Summary.{IsSummary};
 ghost use Rattle.replayer.specs.Jobs.{trace_of};
 ghost use Rattle.taint_shadow.specs.Steps.{AreStanding};
 ghost use Rattle.taint_tracking.specs.Sinks.{AreLabelled};
-ghost use Rattle.epoch_summary.specs.Words.{label_words};
+ghost use Rattle.source_labels.specs.Words.{node_words};
 ghost use Rattle.epoch_summary.specs.Summaries.{number_of, summary_of};
 ghost use Rattle.local_taint.specs.Following.{TracksFrom, IsSummaryOf, AreInRange};
 
@@ -61,8 +61,8 @@ pub fn analyse_from(
 
 /// The summary of the epoch of this number, of what was tracked of all its steps.
 fn summarize(number: u32, tracked: Tracked<Nodes>) -> Summary
-    requires standing { AreStanding label_words tracked.labels tracked.places }
-    requires labelled { AreLabelled label_words tracked.labels tracked.sinks.items }
+    requires standing { AreStanding node_words tracked.labels tracked.places }
+    requires labelled { AreLabelled node_words tracked.labels tracked.sinks.items }
     ensures number { number_of result ≡ number }
     ensures summary { IsSummaryOf tracked result }
 {

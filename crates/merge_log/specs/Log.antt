@@ -5,17 +5,13 @@ use Rattle.lists.specs.Sets.{union, Ascends}
 use Rattle.flow_model.specs.declared.Loc.{Loc}
 use Rattle.flow_model.specs.declared.SourceByte.{SourceByte}
 use Rattle.flow_model.specs.Orders.{loc_cmp, source_cmp}
+pub use Rattle.epoch_model.specs.Summary.{Terms}
 use Rattle.merge_log.specs.declared.nodes.Entry.{Entry}
 use Rattle.merge_log.specs.declared.nodes.Entry.TheVariants.{Source, Run, Start, Union}
 use Rattle.source_runs.specs.declared.runs.SourceRun.{SourceRun}
 use Rattle.source_runs.specs.Runs.{bytes_of}
 
 -- ---- the leaves under a node
-
--- a set of source bytes, and a set of start locations
-pub record Terms : Type 0 where
-  pub sources : List SourceByte
-  pub starts : List Loc
 
 -- both ascend, and so have no repeats
 pub record AreSets (t : Terms) : Type 0 where

@@ -5,7 +5,7 @@ use Rattle.flow_model.specs.declared.Loc.TheVariants.{Reg, Mem}
 use Rattle.epoch_model.specs.Summary.{Summary as EpochSummary}
 use Rattle.epoch_summary.specs.declared.summary.Summary.{Summary}
 use Rattle.epoch_summary.specs.Summaries.{summary_of}
-use Rattle.epoch_summary.specs.Words.{of_itself}
+use Rattle.merge_log.specs.Log.{start_term}
 
 -- a lane that a register has, or an address
 abbrev pub is_location : Loc → Bool
@@ -14,9 +14,9 @@ is_location (Mem p) = true
 
 -- a lane that no register has counts as a location that the epoch doesn't touch. No node asks for one
 abbrev pub located : EpochSummary → EpochSummary
-located e = record e { ends = λ l. if is_location l then e.ends l else of_itself l }
+located e = record e { ends = λ l. if is_location l then e.ends l else start_term l }
 
 -- without a summary no location counts as touched
 abbrev pub known : Option Summary → EpochSummary
-known None = record { ends = of_itself; sinks = [] }
+known None = record { ends = start_term; sinks = [] }
 known (Some s) = located (summary_of s)

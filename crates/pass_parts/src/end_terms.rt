@@ -3,7 +3,6 @@
 ghost use Rattle.std.specs.Prelude.{◌≡◌, IsTrue, Some, OnOk};
 ghost use Rattle.merge_log.specs.Log.{AreSets};
 ghost use Rattle.epoch_summary.specs.Ahead.{IsAhead};
-ghost use Rattle.epoch_summary.specs.Words.{as_terms};
 ghost use Rattle.pass_parts.specs.Known.{is_location, known};
 
 use epoch_summary::{Summary, TermsAhead};
@@ -32,7 +31,7 @@ pub fn read_end_terms(
 ) -> Result<(), NoMemory>
     requires { IsAhead summary.now ahead.old }
     ensures ahead { IsAhead summary.now ahead.new }
-    ensures read { OnOk result (as_terms reader.new ≡ (known (Some summary.now)).ends loc) }
+    ensures read { OnOk result (reader.new ≡ (known (Some summary.now)).ends loc) }
     ensures ascending { OnOk result (AreSets reader.new) }
 {
     if is_location(loc) {

@@ -1,5 +1,5 @@
 -- The sinks of a run that was tracked from its beginning to its end, and the run's rows.
-use Rattle.std.proofs.Common.{◌≡◌, ℕ, ◌-◌, List, map, length, refl, ap, sym, ◌∙◌, arith}
+use Rattle.std.proofs.Common.{◌≡◌, ◌-◌, List, map, refl, ap, sym, ◌∙◌, arith}
 use Rattle.std.proofs.lemmas.Simd.{map-map}
 use Rattle.flow_model.specs.declared.SourceByte.{SourceByte}
 use Rattle.flow_model.specs.declared.SinkPoint.{SinkPoint}

@@ -8,7 +8,9 @@ ghost use Rattle.source_labels.specs.Words.{label_words};
 ghost use Rattle.taint_tracking.specs.Watched.{HasTracked};
 ghost use Rattle.seq_taint.specs.Runs.{AreSinksOfRun};
 
-use crate::reading::rows_of;
+use answer_sets::{Answers, rows_of_sinks};
+use epoch_summary::Asked;
+use merge_log::TermsReader;
 use no_memory::NoMemory;
 use sink_collect::SinkSet;
 use source_labels::SourceLabels;
@@ -53,10 +55,18 @@ impl LabelledSinks {
         })
     }
 
-    /// The rows of the sinks, in their order. It fails only where there is no memory.
+    /// The rows of the sinks, in their order: those of an epoch that asked nothing. It fails only where there is no memory.
     pub fn rows(&self, alloc: Global) -> Result<Vec<SinkSet>, NoMemory>
         ensures { IfOk result (λ rows. rows.items ≡ self.now) }
     {
-        rows_of(alloc, &self.labels, &self.sinks)
+        let mut reader = TermsReader::new(alloc);
+        rows_of_sinks(
+            alloc,
+            &mut reader,
+            self.labels.nodes(),
+            &self.sinks,
+            &Asked::new(alloc),
+            &Answers::new(alloc),
+        )
     }
 }

@@ -8,7 +8,6 @@
 
 mod distinct;
 mod labelled;
-mod reading;
 
 ghost use Rattle.std.specs.Prelude.{◌≡◌, IfOk};
 ghost use Rattle.replayer.specs.Jobs.{trace_of};

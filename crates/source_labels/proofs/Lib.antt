@@ -1,2 +1,3 @@
-mod Nodes
+mod Kept
+mod Sources
 pub mod Origins

@@ -3,13 +3,17 @@
 ghost use Rattle.std.specs.Prelude.{◌≡◌, ◌<◌, ◌≤◌, ◌⊎◌, ◌∷◌, ◌++◌, [], List, Some, slice_get, IfOk, IfSome, IsTrue, OnOk};
 ghost use Rattle.flow_model.specs.Ranges.{IsLocation};
 ghost use Rattle.taint_shadow.specs.Labels.{kind_of};
+ghost use Rattle.taint_shadow.specs.Steps.{AreStanding, meaning_at};
+ghost use Rattle.taint_shadow.specs.declared.labels.LabelKind.TheVariants as kind;
 ghost use Rattle.merge_log.specs.declared.nodes.Entry.{Entry};
 ghost use Rattle.merge_log.specs.Log.{IsNode, terms};
-ghost use Rattle.terms_ahead.specs.Ahead.{AreNext, HaveNodesIn, IsOfLog, KeepNodesOf, node_or_nothing};
+ghost use Rattle.source_labels.specs.Words.{HaveNodesIn, log_of, node_or_nothing, node_words};
+ghost use Rattle.terms_ahead.specs.Ahead.{AreNext, IsOfLog};
 
 use flow_model::Loc;
 use merge_log::{MOST_ROOTS, ManyTerms, MergeLog, Node, TermsReader};
 use no_memory::NoMemory;
+use source_labels::Nodes;
 use source_runs::SourceRun;
 use std::alloc::Global;
 use std::mem;
@@ -53,49 +57,56 @@ impl TermsAhead {
         }
     }
 
-    /// Reads the terms of a node, which is that of sink number `first` of these, and perhaps those of the sinks after it. When
-    /// out of memory, the reader may have read part of them, and can go on with any node, and so can what is read ahead.
+    /// Reads the terms of a label, which is that of sink number `first` of these, and perhaps those of the sinks after it. When
+    /// out of memory, the reader may have read part of them, and can go on with any label, and so can what is read ahead.
     pub fn read_sink(
         &mut self,
-        log: &MergeLog,
-        node: Node,
+        nodes: &Nodes,
+        label: Label,
         sinks: &[SinkLabel],
         first: usize,
         reader: &mut TermsReader,
     ) -> Result<(), NoMemory>
-        requires stands { IsNode log.now node }
-        requires named { HaveNodesIn log.now sinks.now }
-        requires of_log { IsOfLog log.now self.old }
-        ensures of_log { IsOfLog log.now self.new }
-        ensures read { OnOk result (reader.new ≡ terms log.now node) }
+        requires stands { node_words.stands nodes.now label }
+        requires named { HaveNodesIn nodes.now sinks.now }
+        requires of_log { IsOfLog (log_of nodes.now) self.old }
+        ensures of_log { IsOfLog (log_of nodes.now) self.new }
+        ensures read { OnOk result (reader.new ≡ node_words.means nodes.now label) }
     {
+        let Some(node) = node_of(label) else {
+            return nodes.read(label, reader);
+        };
+        let log = nodes.log();
         if self.read_held(log, node, reader)? {
             return Ok(());
         }
         if self.lately < WORTH {
             return self.read_one(log, node, reader);
         }
-        let next = next_sinks(self.alloc, log, node, sinks, first, self.most())?;
+        let next = next_sinks(self.alloc, nodes, node, sinks, first, self.most())?;
         self.read_all(log, node, next, reader)
     }
 
-    /// Reads the terms of a node, which is that of a location, and perhaps those of the locations after it. When out of
-    /// memory, the reader may have read part of them, and can go on with any node, and so can what is read ahead.
+    /// Reads the terms of a location, by the label that is kept for it, and perhaps those of the locations after it. When out
+    /// of memory, the reader may have read part of them, and can go on with any label, and so can what is read ahead.
     pub fn read_end(
         &mut self,
-        log: &MergeLog,
-        node: Node,
+        nodes: &Nodes,
         places: &Places,
         loc: Loc,
         reader: &mut TermsReader,
     ) -> Result<(), NoMemory>
-        requires stands { IsNode log.now node }
-        requires named { KeepNodesOf log.now places.now }
+        requires standing { AreStanding node_words nodes.now places.now }
         requires location { IsLocation loc }
-        requires of_log { IsOfLog log.now self.old }
-        ensures of_log { IsOfLog log.now self.new }
-        ensures read { OnOk result (reader.new ≡ terms log.now node) }
+        requires of_log { IsOfLog (log_of nodes.now) self.old }
+        ensures of_log { IsOfLog (log_of nodes.now) self.new }
+        ensures read { OnOk result (reader.new ≡ meaning_at node_words nodes.now places.now loc) }
     {
+        let label = places.get(loc);
+        let Some(node) = node_of(label) else {
+            return nodes.read(label, reader);
+        };
+        let log = nodes.log();
         let last = self.last.replace(loc);
         if self.read_held(log, node, reader)? {
             return Ok(());
@@ -103,7 +114,7 @@ impl TermsAhead {
         if self.lately < WORTH || !is_near(last, loc) {
             return self.read_one(log, node, reader);
         }
-        let next = next_ends(self.alloc, log, node, places, loc, self.most())?;
+        let next = next_ends(self.alloc, nodes, node, places, loc, self.most())?;
         self.read_all(log, node, next, reader)
     }
 
@@ -244,17 +255,17 @@ fn after(loc: Loc) -> Option<Loc>
 /// A node, and then those of these sinks, from the first one on, each once, `most` nodes in all at most.
 fn next_sinks(
     alloc: Global,
-    log: &MergeLog,
+    nodes: &Nodes,
     node: Node,
     sinks: &[SinkLabel],
     first: usize,
     most: usize,
 ) -> Result<Vec<Node>, NoMemory>
-    requires stands { IsNode log.now node }
-    requires named { HaveNodesIn log.now sinks.now }
+    requires stands { IsNode (log_of nodes.now) node }
+    requires named { HaveNodesIn nodes.now sinks.now }
     requires some { 0 < most }
     requires few { most ≤ 64 }
-    ensures { IfOk result (λ next. AreNext log.now node next.items) }
+    ensures { IfOk result (λ next. AreNext (log_of nodes.now) node next.items) }
 {
     let mut next = Vec::new(alloc);
     next.push(node)?;
@@ -270,18 +281,18 @@ fn next_sinks(
 /// A node, and then those that the locations after this one have, each once, `most` nodes in all at most.
 fn next_ends(
     alloc: Global,
-    log: &MergeLog,
+    nodes: &Nodes,
     node: Node,
     places: &Places,
     loc: Loc,
     most: usize,
 ) -> Result<Vec<Node>, NoMemory>
-    requires stands { IsNode log.now node }
-    requires named { KeepNodesOf log.now places.now }
+    requires stands { IsNode (log_of nodes.now) node }
+    requires standing { AreStanding node_words nodes.now places.now }
     requires location { IsLocation loc }
     requires some { 0 < most }
     requires few { most ≤ 64 }
-    ensures { IfOk result (λ next. AreNext log.now node next.items) }
+    ensures { IfOk result (λ next. AreNext (log_of nodes.now) node next.items) }
 {
     let mut next = Vec::new(alloc);
     next.push(node)?;
@@ -299,20 +310,26 @@ fn next_ends(
     Ok(next)
 }
 
+/// The node of a label that is one.
+fn node_of(label: Label) -> Option<Node>
+    ensures { IfSome result (λ node. kind_of label ≡ kind.Node node) }
+{
+    match label.kind() {
+        LabelKind::Node(node) => Some(node as Node),
+        LabelKind::Start(_) | LabelKind::Run(_) => None,
+    }
+}
+
 /// Adds the node of a label, where it has one with terms that isn't there.
 fn add_node(next: &mut Vec<Node>, label: Label) -> Result<(), NoMemory>
     ensures { OnOk result
         ((next.new.items ≡ next.old.items)
         ⊎ (next.new.items ≡ next.old.items ++ node_or_nothing (kind_of label) ∷ [])) }
 {
-    match label.kind() {
-        LabelKind::Start(_) => Ok(()),
-        LabelKind::Run(_) => Ok(()),
-        LabelKind::Node(node) => {
-            if node > 0 && !next.contains(&(node as Node)) {
-                next.push(node as Node)?;
-            }
-            Ok(())
+    if let Some(node) = node_of(label) {
+        if node > 0 && !next.contains(&node) {
+            next.push(node)?;
         }
     }
+    Ok(())
 }

@@ -6,9 +6,7 @@ use Rattle.flow_model.specs.Origins.{union_over}
 use Rattle.flow_model.proofs.Orders.{source_total}
 use Rattle.lists.specs.Sets.{Ascends, union}
 use Rattle.lists.proofs.Algebra.{union-nil}
-use Rattle.merge_log.specs.Log.{Terms as Leaves}
 use Rattle.epoch_model.specs.Join.{answer_to, resolved}
-use Rattle.epoch_summary.specs.Words.{as_terms}
 use Rattle.answer_sets.proofs.Each.{none_in}
 use Rattle.answer_sets.proofs.Finding.{ascends_answer}
 use Rattle.answer_sets.proofs.sink_rows.sources_of.Goals as goal
@@ -31,7 +29,7 @@ of-requires c =
 pub returns-in-Some : goal.returns-in-Some
 returns-in-Some c =
     let before = answer_to c.args.asked.now c.args.answers.now in
-    IfOk-weaker c.of.result _ _ (λ all is. is ∙ c.answer.ensures ∙ ap (λ (t : Leaves). resolved before (as_terms t)) (sym c.in-Some.ensures)) c.of.ensures
+    IfOk-weaker c.of.result _ _ (λ all is. is ∙ c.answer.ensures ∙ ap (resolved before) (sym c.in-Some.ensures)) c.of.ensures
 
 pub of-requires-2 : goal.of-requires-2
 of-requires-2 c = subst (Ascends source_cmp) (sym c.deref.ensures.value) c.in_ok-all.ensures.ascending

@@ -4,7 +4,6 @@ use Rattle.lists.specs.Sets.{is_within}
 use Rattle.flow_model.specs.Orders.{loc_cmp}
 use Rattle.epoch_model.specs.Summary.{Terms}
 use Rattle.stream_model.specs.Streams.{places_needed}
-use Rattle.epoch_summary.specs.Words.{as_terms}
 use Rattle.pass_parts.specs.declared.requests.Request.{Request}
 use Rattle.pass_parts.specs.Known.{known}
 use Rattle.pass_parts.specs.Requests.{IsCounted}
@@ -27,5 +26,5 @@ returns-then-share_end_terms-clause-asked c =
 
 pub returns-clause-counted : goal.returns-clause-counted
 returns-clause-counted c =
-    counted_now c.add_starts.result c.args.asked.now c.add_starts.new.asked (known (Some c.args.summary.now)) (as_terms c.read_end_terms.new.reader) c.args.loc
+    counted_now c.add_starts.result c.args.asked.now c.add_starts.new.asked (known (Some c.args.summary.now)) c.read_end_terms.new.reader c.args.loc
     c.in_ok-read_end_terms.ensures.read c.add_starts.ensures.added c.add_starts.ensures.needed

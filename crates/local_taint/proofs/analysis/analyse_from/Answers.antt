@@ -5,7 +5,7 @@ use Rattle.replayer.specs.Jobs.{trace_of}
 use Rattle.epoch_summary.specs.Summaries.{summary_of}
 use Rattle.local_taint.specs.Following.{AreInRange}
 use Rattle.taint_tracking.specs.Watched.{IsOfSteps}
-use Rattle.epoch_summary.specs.Words.{label_words}
+use Rattle.source_labels.specs.Words.{node_words}
 use Rattle.local_taint.proofs.Terms.{terms_course}
 use Rattle.local_taint.proofs.analysis.analyse_from.Goals as goal
 
@@ -17,7 +17,7 @@ returns-clause-summary c =
     let s = c.args.cursor.now.time in
     let until = s + (c.past_last-past_last.result - s) in
     let here = c.first-first.ensures ∙ sym c.requires.begins in
-    let begun = subst (λ (t : ℕ). IsOfSteps label_words q trace t t c.in_ok-watching.watching) here (c.in_ok-watching.ensures trace) in
+    let begun = subst (λ (t : ℕ). IsOfSteps node_words q trace t t c.in_ok-watching.watching) here (c.in_ok-watching.ensures trace) in
     let found = c.in_ok-finish.ensures.found q trace s until (c.follow.ensures.tracked q s begun) _ (terms_course (policy_of q) trace s) in
     let made = c.summarize.ensures.summary q trace s until found in
     let n : until - s ≡ ticket.past_last - ticket.first = omega (arith, c.requires.begins, c.past_last-past_last.ensures) in
@@ -32,7 +32,7 @@ returns-clause-in_range c =
     let s = c.args.cursor.now.time in
     let until = s + (c.past_last-past_last.result - s) in
     let here = c.first-first.ensures ∙ sym c.requires.begins in
-    let begun = subst (λ (t : ℕ). IsOfSteps label_words q trace t t c.in_ok-watching.watching) here (c.in_ok-watching.ensures trace) in
+    let begun = subst (λ (t : ℕ). IsOfSteps node_words q trace t t c.in_ok-watching.watching) here (c.in_ok-watching.ensures trace) in
     let found = c.in_ok-finish.ensures.found q trace s until (c.follow.ensures.tracked q s begun) _ (terms_course (policy_of q) trace s) in
     let n : until - s ≡ ticket.past_last - ticket.first = omega (arith, c.requires.begins, c.past_last-past_last.ensures) in
     subst (AreInRange trace ticket.first) n (subst (λ (t : ℕ). AreInRange trace t (until - s)) c.requires.begins found.in_range)

@@ -4,7 +4,7 @@ use Rattle.flow_model.specs.Origins.{step_at}
 use Rattle.replayer.specs.Jobs.{Job, trace_of}
 use Rattle.replayer.specs.Positions.{CursorAt}
 use Rattle.taint_tracking.specs.Watched.{IsOfSteps, Tracks}
-use Rattle.epoch_summary.specs.Words.{label_words}
+use Rattle.source_labels.specs.Words.{node_words}
 use Rattle.replayer.proofs.Told.{went_on}
 use Rattle.local_taint.proofs.InARow.{tracks_row}
 use Rattle.local_taint.proofs.analysis.follow.Goals as goal
@@ -33,14 +33,14 @@ loop-cursor-preserved c =
     let last = c.quiet_until-until.ensures.last in
     let next = ap (λ (p : CursorAt). p.time) made.moved in
     let points = subst (λ (t : ℕ). c.quiet_until-until.result ≤ t) c.quiet_until.ensures c.quiet_until-until.ensures.points in
-    let quiet = (tracks_row label_words _ old.job c.quiet_until-until.result (omega (arith, last, c.ranges.past_last.fits)) old.time c.loop-cursor.watching points row.time c.run_plain.new.follower c.run_plain.ensures.told c.run_plain.ensures.within).0 in
+    let quiet = (tracks_row node_words _ old.job c.quiet_until-until.result (omega (arith, last, c.ranges.past_last.fits)) old.time c.loop-cursor.watching points row.time c.run_plain.new.follower c.run_plain.ensures.told c.run_plain.ensures.within).0 in
     let at : step_at trace step.number ≡ Some step = subst (λ (t : ℕ). step_at trace t ≡ Some step) (sym made.number) (subst (λ (j : Job). step_at (trace_of j) row.time ≡ Some step) same made.step) in
-    let one_more = subst (λ (t : ℕ). Tracks label_words trace t (t + 1) c.run_plain.new.follower c.track.new.self) made.number (c.track.ensures trace at) in
+    let one_more = subst (λ (t : ℕ). Tracks node_words trace t (t + 1) c.run_plain.new.follower c.track.new.self) made.number (c.track.ensures trace at) in
     record {
       same_job = ap (λ (p : CursorAt). p.job) made.moved ∙ same;
       begun = omega (arith, later, next, before.begun);
       within = omega (arith, next, last, c.run_plain.ensures.within, c.loop-cursor-test.true, c.time.ensures);
       tracked = λ q first here.
-          let stretch = subst (λ (j : Job). Tracks label_words (trace_of j) old.time row.time c.loop-cursor.watching c.run_plain.new.follower) before.same_job quiet in
-          subst (λ (t : ℕ). IsOfSteps label_words q trace first t c.track.new.self) (sym next) (one_more q first (stretch q first (before.tracked q first here)));
+          let stretch = subst (λ (j : Job). Tracks node_words (trace_of j) old.time row.time c.loop-cursor.watching c.run_plain.new.follower) before.same_job quiet in
+          subst (λ (t : ℕ). IsOfSteps node_words q trace first t c.track.new.self) (sym next) (one_more q first (stretch q first (before.tracked q first here)));
     }

@@ -1,7 +1,7 @@
 use Rattle.std.proofs.Common.{◌≡◌, ◌-◌, ◌≤◌}
 use Rattle.replayer.specs.Jobs.{trace_of}
 use Rattle.taint_tracking.specs.Watched.{Tracks}
-use Rattle.epoch_summary.specs.Words.{label_words}
+use Rattle.source_labels.specs.Words.{node_words}
 use Rattle.local_taint.proofs.analysis.follow.Given as goal
 
 abbrev pub invariant-loop-cursor : goal.invariant-loop-cursor
@@ -9,7 +9,7 @@ invariant-loop-cursor l = let job = l.initial.cursor.job in let start = l.initia
   same_job : l.cursor.job ≡ job;
   begun : start ≤ l.cursor.time;
   within : l.cursor.time - start ≤ l.past_last - start;
-  tracked : Tracks label_words (trace_of job) start l.cursor.time l.initial.watching l.watching;
+  tracked : Tracks node_words (trace_of job) start l.cursor.time l.initial.watching l.watching;
 }
 
 abbrev pub decreases-loop-cursor : goal.decreases-loop-cursor
