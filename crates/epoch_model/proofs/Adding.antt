@@ -109,9 +109,8 @@ added_all-append asked [] ys = refl
 added_all-append asked (x ∷ xs) ys = added_all-append (added asked x) xs ys
 
 pub Ascends-answer : (asked : List Loc) (answers : List (List SourceByte)) (l : Loc) → AllByRecursion (Ascends source_cmp) answers → Ascends source_cmp (answer_to asked answers l)
-Ascends-answer [] answers l a = tt
-Ascends-answer (m ∷ asked) [] l a = tt
 Ascends-answer (m ∷ asked) (x ∷ xs) l a = by (Ascends-answer asked xs l a.1) (eq_by_cmp loc_cmp l m) where
   by : Ascends source_cmp (answer_to asked xs l) → (b : Bool) → Ascends source_cmp (cond b x (answer_to asked xs l))
   by ih true = a.0
   by ih false = ih
+Ascends-answer asked answers l a = tt

@@ -16,10 +16,8 @@ use Rattle.flow_model.proofs.Orders.{loc_same, source_same}
 use Rattle.epoch_model.specs.Stretch.{locations_over}
 
 or_crossed : (a b c d : Bool) → ((a || b) || (c || d)) ≡ ((a || c) || (b || d))
-or_crossed true b c d = refl
 or_crossed false true true d = refl
-or_crossed false true false d = refl
-or_crossed false false c d = refl
+or_crossed a b c d = refl
 
 -- either of two tests
 pub any_either : {X : Type 0} (f g : X → Bool) (xs : List X) → list_any (λ x. f x || g x) xs ≡ (list_any f xs || list_any g xs)

@@ -21,7 +21,8 @@ use Rattle.epoch_model.specs.Crossing.{added_all, wanted, asked_by, crossing, cr
 use Rattle.epoch_model.specs.JoinLaws.{AsksWhatIsNeeded, AsksLocations, AsksByCuts, AsksOnce, DefinedAreSummaries}
 use Rattle.epoch_model.proofs.AnyOf.{any_flat, any_union}
 use Rattle.epoch_model.proofs.Composing.{any_past}
-use Rattle.epoch_model.proofs.Lists.{all-flat, any_agreeing, flat_agreeing}
+use Rattle.report_model.proofs.Each.{all-flat}
+use Rattle.epoch_model.proofs.Lists.{any_agreeing, flat_agreeing}
 use Rattle.epoch_model.proofs.Located.{located-past}
 use Rattle.epoch_model.proofs.Adding.{any_added_all, all-added_all, none_distinct, once_added_all}
 use Rattle.epoch_model.proofs.Sinks.{IsPlaced, sinks-split, sinks-later, placed-between, placed-of_epoch}
@@ -95,8 +96,6 @@ module _ (q : Query) (trace : List StepSeen) (steps : AllByRecursion IsInRange t
   any_crossing f s [] t [] pos h a =
       let none : 0 ≡ t - s = omega (arith, h) in
       ap (λ (i : ℕ). list_any (flows_in (policy_of q) trace f s) (sinks_between q trace s i)) none
-  any_crossing f s [] t (e ∷ es) pos h a = absurd a
-  any_crossing f s (c ∷ cs) t [] pos h a = absurd a
   any_crossing f s (c ∷ cs) t (e ∷ es) pos h a =
       let policy = policy_of q in
       let low : s ≤ c = omega (arith, h.0) in
@@ -111,6 +110,7 @@ module _ (q : Query) (trace : List StepSeen) (steps : AllByRecursion IsInRange t
       ∙ all_flow f s c low (sinks_between q trace c (t - c)) (placed-between q points trace c (t - c)))
       ∙ sym (ap (list_any (flows_in policy trace f s)) (sinks-split q trace s c t low (rises_up c cs t h.1))
       ∙ list_any-append (flows_in policy trace f s) (sinks_between q trace s (c - s)) (sinks_between q trace c (t - c)))
+  any_crossing f s cs t es pos h a = absurd a
 
 any_needed : (policy : Policy) (trace : List StepSeen) (f : Loc → Bool) (s : ℕ) (ks : List Sink) → list_any f (needed_by policy trace s ks) ≡ list_any (flows_in policy trace f s) ks
 any_needed policy trace f s [] = refl
@@ -142,14 +142,13 @@ asks_once (e ∷ es) = once_added_all [] (wanted e (crossing es)) none_distinct
 by_cuts : (q : Query) (trace : List StepSeen) → AllByRecursion IsInRange trace → AllByRecursion (λ p. IsLocation p.loc) q.points
     → (s : ℕ) (cs : List ℕ) (es : List Summary) → AreSummaries q trace s cs es → crossing es ≡ crossing_at q trace s cs
 by_cuts q trace steps points s [] [] a = refl
-by_cuts q trace steps points s [] (e ∷ es) a = absurd a
-by_cuts q trace steps points s (c ∷ cs) [] a = absurd a
 by_cuts q trace steps points s (c ∷ cs) (e ∷ es) a =
     let starts : List SinkTerms → List Loc = flat_map (λ k. k.terms.starts) in
     ap₂ (λ (x y : List Loc). added_all [] (x ++ y))
     (ap starts (a.0).sinks)
     (flat_agreeing (λ l. (e.ends l).starts) (past (policy_of q).rule trace s (c - s)) (crossing es) (starts_are q trace steps points s (c - s) e (crossing es) a.0 (located-crossing q trace steps points c cs es a.1))
     ∙ ap (flat_map (past (policy_of q).rule trace s (c - s))) (by_cuts q trace steps points c cs es a.1))
+by_cuts q trace steps points s cs es a = absurd a
 
 pub asks_by_cuts : AsksByCuts
 asks_by_cuts q trace s cuts es steps points a =

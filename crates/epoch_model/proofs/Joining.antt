@@ -90,8 +90,6 @@ module _ (q : Query) (trace : List StepSeen) (steps : AllByRecursion IsInRange t
   joined_later s [] t [] asked answers pos h a k =
       let none : 0 ≡ t - s = omega (arith, h) in
       ap (λ (i : ℕ). map (row q trace) (sinks_between q trace s i)) none
-  joined_later s [] t (e ∷ es) asked answers pos h a k = absurd a
-  joined_later s (c ∷ cs) t [] asked answers pos h a k = absurd a
   joined_later s (c ∷ cs) t (e ∷ es) asked answers pos h a k =
       let before = answer_to asked answers in
       let low : s ≤ c = omega (arith, h.0) in
@@ -101,6 +99,7 @@ module _ (q : Query) (trace : List StepSeen) (steps : AllByRecursion IsInRange t
       ∙ joined_later c cs t es (crossing es) (map (origins (policy_of q) trace c) (crossing es)) (omega (arith, h.0)) h.1 a.1 (answer_is (origins (policy_of q) trace c) (crossing es)))
       ∙ sym (ap (map (row q trace)) (sinks-split q trace s c t low (rises_up c cs t h.1))
       ∙ map-append (row q trace) (sinks_between q trace s (c - s)) (sinks_between q trace c (t - c)))
+  joined_later s cs t es asked answers pos h a k = absurd a
 
   -- the first epoch has its own rows and those of the epochs that follow
   joined_first : (c : ℕ) (cs : List ℕ) (t : ℕ) (e : Summary) (es : List Summary) → c ≤ t → AreSummaries q trace 0 (c ∷ cs) (e ∷ es)

@@ -9,10 +9,6 @@ module _ {X : Type 0} where
   any_agreeing f g (x ∷ xs) h = ap₂ (λ (a b : Bool). a || b) h.0 (any_agreeing f g xs h.1)
 
 module _ {X Y : Type 0} where
-  pub all-flat : (P : Y → Type 0) (f : X → List Y) (xs : List X) → AllByRecursion (λ x. AllByRecursion P (f x)) xs → AllByRecursion P (flat_map f xs)
-  all-flat P f [] a = tt
-  all-flat P f (x ∷ xs) a = all-append P (f x) (flat_map f xs) a.0 (all-flat P f xs a.1)
-
   pub flat_agreeing : (f g : X → List Y) (xs : List X) → AllByRecursion (λ x. f x ≡ g x) xs → flat_map f xs ≡ flat_map g xs
   flat_agreeing f g [] h = refl
   flat_agreeing f g (x ∷ xs) h = ap₂ (◌++◌) h.0 (flat_agreeing f g xs h.1)

@@ -83,10 +83,7 @@ module _ (q : Query) where
 
   placed-call : (s t : ℕ) (call : CallSeen) → s ≤ t → (k : CallKind) → AllByRecursion (IsPlaced s) (sinks_of_call t call k)
   placed-call s t call h kind.Write = placed-bytes s t call h 0 call.length
-  placed-call s t call h kind.Read = tt
-  placed-call s t call h kind.Clock = tt
-  placed-call s t call h kind.Other = tt
-  placed-call s t call h kind.Exit = tt
+  placed-call s t call h k = tt
 
   placed-step : (s t : ℕ) (call : Option CallSeen) → s ≤ t → AllByRecursion (IsPlaced s) (sinks_of_step t call)
   placed-step s t None h = tt

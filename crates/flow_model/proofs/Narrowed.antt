@@ -28,10 +28,9 @@ module _ (few many : Policy) (rule : many.rule ≡ few.rule) (within : (b : Sour
   narrowed-introduced : (b : SourceByte) → introduced few b ≡ narrowed (introduced many b)
   narrowed-introduced b = by (few.introduces b) refl (many.introduces b) refl where
     by : (c : Bool) → few.introduces b ≡ c → (d : Bool) → many.introduces b ≡ d → cond c (b ∷ []) [] ≡ narrowed (cond d (b ∷ []) [])
-    by true e true f = ap (λ (c : Bool). cond c (b ∷ []) []) (sym e)
     by true e false f = let w = within b e in cc
-    by false e true f = ap (λ (c : Bool). cond c (b ∷ []) []) (sym e)
     by false e false f = refl
+    by c e d f = ap (λ (c : Bool). cond c (b ∷ []) []) (sym e)
 
   narrowed-fresh : (call : Option CallSeen) (l : Loc) → fresh_by few call l ≡ narrowed (fresh_by many call l)
   narrowed-fresh None l = refl

@@ -12,7 +12,7 @@ use Rattle.flow_model.specs.declared.SinkByte.{SinkByte}
 use Rattle.flow_model.specs.declared.InnerSink.{InnerSink}
 use Rattle.flow_model.specs.declared.SinkPoint.{SinkPoint}
 use Rattle.flow_model.specs.declared.SinkPoint.TheVariants.{Out, At}
-use Rattle.flow_model.specs.Orders.{loc_key, source_key, loc_cmp, source_cmp, sink_key, sink_cmp, inner_key, inner_cmp, point_key, point_cmp}
+use Rattle.flow_model.specs.Orders.{loc_key, source_key, loc_cmp, source_cmp, sink_key, inner_key, inner_cmp, point_key, point_cmp}
 
 pub source_total : IsTotalOrder source_cmp
 source_total = on_total source_key nat_list_cmp_total
@@ -38,15 +38,11 @@ source_same a b e = same_source a b (same_lists (source_key a) (source_key b) e)
 
 pub same_loc : (a b : Loc) → loc_key a ≡ loc_key b → a ≡ b
 same_loc (Reg r i) (Reg s j) e = cc
-same_loc (Reg r i) (Mem p) e = cc
-same_loc (Mem p) (Reg s j) e = cc
 same_loc (Mem p) (Mem q) e = cc
+same_loc a b e = cc
 
 pub loc_same : IsAntisymmetric loc_cmp
 loc_same a b e = same_loc a b (same_lists (loc_key a) (loc_key b) e)
-
-pub sink_total : IsTotalOrder sink_cmp
-sink_total = on_total sink_key nat_list_cmp_total
 
 same_sink : (a b : SinkByte) → sink_key a ≡ sink_key b → a ≡ b
 same_sink a b e =
@@ -54,9 +50,6 @@ same_sink a b e =
     let p : a.channel ≡ b.channel = cc in
     let q : a.offset ≡ b.offset = cc in
     ap₂ make p q
-
-pub sink_same : IsAntisymmetric sink_cmp
-sink_same a b e = same_sink a b (same_lists (sink_key a) (sink_key b) e)
 
 pub inner_total : IsTotalOrder inner_cmp
 inner_total = on_total inner_key nat_list_cmp_total
@@ -76,9 +69,8 @@ point_total = on_total point_key nat_list_cmp_total
 
 same_point : (a b : SinkPoint) → point_key a ≡ point_key b → a ≡ b
 same_point (Out a) (Out b) e = let k : sink_key a ≡ sink_key b = cc in ap Out (same_sink a b k)
-same_point (Out a) (At q) e = cc
-same_point (At p) (Out b) e = cc
 same_point (At p) (At q) e = let k : inner_key p ≡ inner_key q = cc in ap At (same_inner p q k)
+same_point a b e = cc
 
 pub point_same : IsAntisymmetric point_cmp
 point_same a b e = same_point a b (same_lists (point_key a) (point_key b) e)

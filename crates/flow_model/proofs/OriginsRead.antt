@@ -9,6 +9,7 @@ use Rattle.flow_model.specs.declared.StepSeen.{StepSeen}
 use Rattle.flow_model.specs.declared.CallSeen.{CallSeen}
 use Rattle.lists.specs.Sets.{union}
 use Rattle.lists.proofs.Algebra.{All-union}
+use Rattle.lists.proofs.Lists.{all-weaken}
 use Rattle.flow_model.specs.Orders.{source_cmp}
 use Rattle.flow_model.specs.Flow.{from, is_received, from_instruction_or, origins_by, cleared}
 use Rattle.flow_model.specs.Origins.{Policy, origins, introduced, fresh, fresh_by, byte_at, union_over, after_step, step_at}
@@ -63,10 +64,6 @@ all_union_over P before h [] = tt
 all_union_over P before h (l ∷ []) = h l
 all_union_over P before h (l ∷ m ∷ ls) = All-union source_cmp P (before l) (union_over before (m ∷ ls)) (h l) (all_union_over P before h (m ∷ ls))
 
-all_map : (P Q : SourceByte → Type 0) → ((b : SourceByte) → P b → Q b) → (xs : List SourceByte) → AllByRecursion P xs → AllByRecursion Q xs
-all_map P Q f [] h = tt
-all_map P Q f (x ∷ xs) h = (f x h.0, all_map P Q f xs h.1)
-
 later : (policy : Policy) (trace : List StepSeen) (t : ℕ) (b : SourceByte) → WasRead policy trace t b → WasRead policy trace (suc t) b
 later policy trace t b w = record {
   is_introduced = w.is_introduced;
@@ -107,7 +104,7 @@ fresh_was_read policy trace t l step s (Some call) c = by (is_received call l) r
 
 origins_by_recursion : (policy : Policy) (trace : List StepSeen) (t : ℕ) (l : Loc) → AllByRecursion (WasRead policy trace t) (origins policy trace t l)
 origins_by_recursion policy trace zero l = tt
-origins_by_recursion policy trace (suc t) l = by (λ m. all_map _ _ (later policy trace t) _ (origins_by_recursion policy trace t m)) (step_at trace t) refl where
+origins_by_recursion policy trace (suc t) l = by (λ m. all-weaken _ _ (later policy trace t) _ (origins_by_recursion policy trace t m)) (step_at trace t) refl where
   by : ((m : Loc) → AllByRecursion (WasRead policy trace (suc t)) (origins policy trace t m)) → (o : Option StepSeen) → step_at trace t ≡ o
       → AllByRecursion (WasRead policy trace (suc t)) (after_step policy o (origins policy trace t) l)
   by ih None e = ih l

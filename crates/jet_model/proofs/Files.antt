@@ -185,8 +185,7 @@ module _ {A : Type 0} where
 
   joined-cons : (p q : Result (List A) Refusal) (x : A) → and_then (joined p q) (λ xs. ok_list (x ∷ xs)) ≡ joined (and_then p (λ xs. ok_list (x ∷ xs))) q
   joined-cons (Ok front) (Ok rest) x = refl
-  joined-cons (Ok front) (Err r) x = refl
-  joined-cons (Err r) q x = refl
+  joined-cons p q x = refl
 
   joined-nil : (q : Result (List A) Refusal) → q ≡ joined (Ok []) q
   joined-nil (Ok rest) = refl
@@ -227,12 +226,11 @@ module _ (file : Contents) where
 
   inputs-there : (n : ℕ) (names inputs : List (List ℕ)) → map file names ≡ map some_bytes inputs → AreAllShort file names → each_in_order read_input n names ≡ Ok inputs
   inputs-there n [] [] e short = refl
-  inputs-there n [] (c ∷ cs) e short = cc
-  inputs-there n (name ∷ names) [] e short = cc
   inputs-there n (name ∷ names) (c ∷ cs) e short =
       let p = first_is (file name) (map file names) (map some_bytes cs) (Some c) e in
       and_then-ok (file_at file name) (λ input. and_then (each_in_order read_input (n + 1) names) (λ inputs. Ok (input ∷ inputs))) c (short_there file name c p.0 short.0)
       ∙ and_then-ok (each_in_order read_input (n + 1) names) (λ inputs. Ok (c ∷ inputs)) cs (inputs-there (n + 1) names cs p.1 short.1)
+  inputs-there n names inputs e short = cc
 
   inputs-is_ok : (n : ℕ) (names inputs : List (List ℕ)) → each_in_order read_input n names ≡ Ok inputs → map file names ≡ map some_bytes inputs
   inputs-is_ok n [] inputs h = ap (map some_bytes) (same_list [] inputs h)
@@ -259,15 +257,12 @@ module _ (file : Contents) where
 
   queries-there : (n : ℕ) (names texts : List (List ℕ)) (qs : List Query) → AreQueriesAt names texts qs → AreAllShort file names → each_in_order (numbered_query_at file) n names ≡ Ok qs
   queries-there n [] [] [] are short = refl
-  queries-there n [] [] (q ∷ qs) are short = let e = are.are_queries in cc
-  queries-there n [] (t ∷ ts) qs are short = let e = are.there in cc
-  queries-there n (name ∷ names) [] qs are short = let e = are.there in cc
-  queries-there n (name ∷ names) (t ∷ ts) [] are short = let e = are.are_queries in cc
   queries-there n (name ∷ names) (t ∷ ts) (q ∷ qs) are short =
       let p = first_is (file name) (map file names) (map some_bytes ts) (Some t) are.there in
       let i = first_is (query t) (map query ts) (map ok_query qs) (Ok q) are.are_queries in
       and_then-ok (numbered_query_at file n name) (λ x. and_then (each_in_order (numbered_query_at file) (n + 1) names) (λ xs. Ok (x ∷ xs))) q (numbered-there n name t q p.0 short.0 i.0)
       ∙ and_then-ok (each_in_order (numbered_query_at file) (n + 1) names) (λ xs. Ok (q ∷ xs)) qs (queries-there (n + 1) names ts qs (record { there = p.1; are_queries = i.1 }) short.1)
+  queries-there n names texts qs are short = let e = are.there in let f = are.are_queries in cc
 
   pub queries_at-there : (names texts : List (List ℕ)) (qs : List Query) → AreQueriesAt names texts qs → AreAllShort file names → queries_at file names ≡ Ok qs
   queries_at-there names texts qs are short = queries-there 1 names texts qs are short

@@ -133,10 +133,7 @@ from_call : (call : CallSeen) (k : CallKind) (b : SourceByte) → call.kind ≡ 
 from_call call kind.Read b e h =
     let r = from_range call b 0 call.length (map-some (λ c. c ≡ b) (source_at call) (range_with_len 0 call.length) h) in
     record { reads = e; on = r.0; from = omega (arith, r.1); to = omega (arith, r.2) }
-from_call call kind.Write b e h = absurd h
-from_call call kind.Clock b e h = absurd h
-from_call call kind.Other b e h = absurd h
-from_call call kind.Exit b e h = absurd h
+from_call call k b e h = absurd h
 
 in_call : (call : CallSeen) (k : CallKind) (b : SourceByte) → call.kind ≡ k → IsReadBy call b → Some_in (λ c. c ≡ b) (sources_of_call call k)
 in_call call kind.Read b e r =
@@ -145,10 +142,7 @@ in_call call kind.Read b e r =
     some-map (λ c. c ≡ b) (source_at call) (range_with_len 0 call.length)
     (some-each _ (λ j. source_at call j ≡ b) (λ j same. ap (source_at call) same ∙ ap₂ (λ (c o : ℕ). record { channel = c; offset = o }) r.on there) (range_with_len 0 call.length)
     (some-range 0 call.length i (omega arith) (omega (arith, r.from, r.to))))
-in_call call kind.Write b e r = let f = sym e ∙ r.reads in cc
-in_call call kind.Clock b e r = let f = sym e ∙ r.reads in cc
-in_call call kind.Other b e r = let f = sym e ∙ r.reads in cc
-in_call call kind.Exit b e r = let f = sym e ∙ r.reads in cc
+in_call call k b e r = let f = sym e ∙ r.reads in cc
 
 by_call : (trace : List StepSeen) (b : SourceByte) (n : ℕ) (step : StepSeen) (call : Option CallSeen) → step_at trace n ≡ Some step → step.call ≡ call → Some_in (λ c. c ≡ b) (sources_of_step call) → IsReceived trace b.channel b.offset
 by_call trace b n step None s e h = absurd h

@@ -60,43 +60,35 @@ none_again v least left text t at fields is low high order below outcome bytes w
 
 clock_again : (v : Version) (left : List (List ℕ)) (at value : ℕ) (after : List ℕ) → at < 2 ^ 40 → at < step_end v → value < 2 ^ 64 → IsAgain v left (Call (Clock at value)) after
 clock_again v left at value after p w q =
-    let text = record_text v (Clock at value) ++ after in
     let is = begun_with v 3 at (word64 value) after w in
-    let here = begun v 3 at (word64 value) w in
     let b : long_at (word64 value ++ after) 0 ≡ value = from_le_bytes-to_le_bytes_8 value q in
     record {
       same = rw (is.step, is.has, b) refl;
-      size = omega (arith, here.long);
-      none = λ least h. none_again v least left text 3 at _ is (omega arith) (omega arith) h p refl refl (omega (arith, is.long));
+      size = omega (arith, (begun v 3 at (word64 value) w).long);
+      none = λ least h. none_again v least left _ 3 at _ is (omega arith) (omega arith) h p refl refl (omega (arith, is.long));
     }
 
 other_again : (v : Version) (left : List (List ℕ)) (at number : ℕ) (after : List ℕ) → at < 2 ^ 40 → at < step_end v → number < 2 ^ 32 → IsAgain v left (Call (Other at number)) after
 other_again v left at number after p w q =
-    let text = record_text v (Other at number) ++ after in
     let is = begun_with v 4 at (word32 number) after w in
-    let here = begun v 4 at (word32 number) w in
     let b : word_at (word32 number ++ after) 0 ≡ number = from_le_bytes-to_le_bytes_4 number q in
     record {
       same = rw (is.step, is.has, b) refl;
-      size = omega (arith, here.long);
-      none = λ least h. none_again v least left text 4 at _ is (omega arith) (omega arith) h p refl refl (omega (arith, is.long));
+      size = omega (arith, (begun v 4 at (word32 number) w).long);
+      none = λ least h. none_again v least left _ 4 at _ is (omega arith) (omega arith) h p refl refl (omega (arith, is.long));
     }
 
 small : (k : ℕ) → IsTrapKind k → k ≤ 7
-small k (inl h) = omega arith
-small k (inr (inl e)) = omega arith
-small k (inr (inr e)) = omega arith
+small k h = grind arith
 
 pub end_again : (v : Version) (left : List (List ℕ)) (e : RunEnd) (after : List ℕ) → IsEnd e → item_at (End e) < step_end v → are_left left ≡ false → IsAgain v left (End e) after
 end_again v left (Exit at code) after h w none =
-    let text = end_text v (Exit at code) ++ after in
     let is = begun_with v 5 at (word32 code) after w in
-    let here = begun v 5 at (word32 code) w in
     let b : word_at (word32 code ++ after) 0 ≡ code = from_le_bytes-to_le_bytes_4 code h.1 in
     record {
       same = rw (is.step, is.has, b) refl;
-      size = omega (arith, here.long);
-      none = λ least o. none_again v least left text 5 at _ is (omega arith) (omega arith) o h.0 refl (rw none refl) (omega (arith, is.long));
+      size = omega (arith, (begun v 5 at (word32 code) w).long);
+      none = λ least o. none_again v least left _ 5 at _ is (omega arith) (omega arith) o h.0 refl (rw none refl) (omega (arith, is.long));
     }
 end_again v left (Trap at kind pc) after h w none =
     let text = end_text v (Trap at kind pc) ++ after in

@@ -6,8 +6,7 @@ use Rattle.log_model.specs.Logs.{IsEnd, end_at, steps_by}
 
 pub end_at-le-steps_by : (end : RunEnd) → end_at end ≤ steps_by end
 end_at-le-steps_by (Exit at code) = omega arith
-end_at-le-steps_by (Trap at kind pc) = omega arith
-end_at-le-steps_by (Limit at) = omega arith
+end_at-le-steps_by end = omega arith
 
 pub end_at-small : (end : RunEnd) → IsEnd end → end_at end ≤ 2 ^ 40
 end_at-small (Exit at code) h = omega (arith, h.0)

@@ -205,17 +205,6 @@ write_next v least left rest s =
 
 -- ---- each tag
 
-seven : (P : ℕ → Type 0) → P 1 → P 2 → P 3 → P 4 → P 5 → P 6 → P 7 → (t : ℕ) → 1 ≤ t → t ≤ 7 → P t
-seven P a b c d e f g zero low high = absurd (omega arith)
-seven P a b c d e f g (suc zero) low high = a
-seven P a b c d e f g (suc (suc zero)) low high = b
-seven P a b c d e f g (suc (suc (suc zero))) low high = c
-seven P a b c d e f g (suc (suc (suc (suc zero)))) low high = d
-seven P a b c d e f g (suc (suc (suc (suc (suc zero))))) low high = e
-seven P a b c d e f g (suc (suc (suc (suc (suc (suc zero)))))) low high = f
-seven P a b c d e f g (suc (suc (suc (suc (suc (suc (suc zero))))))) low high = g
-seven P a b c d e f g (suc (suc (suc (suc (suc (suc (suc (suc t)))))))) low high = absurd (omega (arith, high))
-
 -- a record without data ends with its fields
 no_data : (v : Version) (least : ℕ) (left : List (List ℕ)) (rest : List ℕ) (item : Item) (n : ℕ) → IsNext v least left rest item (drop n rest) → IsNext v least left rest item (drop (n + 0) rest)
 no_data v least left rest item n next = let same : n ≡ n + 0 = omega arith in subst (λ (k : ℕ). IsNext v least left rest item (drop k rest)) same next
@@ -223,13 +212,17 @@ no_data v least left rest item n next = let same : n ≡ n + 0 = omega arith in 
 pub item_next : (v : Version) (least : ℕ) (left : List (List ℕ)) (rest : List ℕ) → IsBytes rest → AreAllBytes left → record_fault v least left rest ≡ None
     → IsNext v least left rest (item_of v left rest) (drop (item_length v rest) rest)
 item_next v least left rest fits left_fits none =
-    let sound : IsSound v least left rest (tag_of rest) = record { are_bytes = fits; known = no_fault v least left rest none } in
-    seven (λ t. IsSound v least left rest t → IsNext v least left rest (item_of v left rest) (drop (item_length v rest) rest))
-    (λ s. rw s.known.tag (read_next v least left rest left_fits s))
-    (λ s. rw s.known.tag (write_next v least left rest s))
-    (λ s. rw s.known.tag (no_data v least left rest _ (fixed_length v 3) (clock_next v least left rest s)))
-    (λ s. rw s.known.tag (no_data v least left rest _ (fixed_length v 4) (other_next v least left rest s)))
-    (λ s. rw s.known.tag (no_data v least left rest _ (fixed_length v 5) (exit_next v least left rest s)))
-    (λ s. rw s.known.tag (no_data v least left rest _ (fixed_length v 6) (trap_next v least left rest s)))
-    (λ s. rw s.known.tag (no_data v least left rest _ (fixed_length v 7) (limit_next v least left rest s)))
-    (tag_of rest) sound.known.low sound.known.high sound
+    by (tag_of rest) known.low known.high record { are_bytes = fits; known = known }
+  where
+    known : IsKnown v least left rest (tag_of rest)
+    known = no_fault v least left rest none
+
+    by : (t : ℕ) → 1 ≤ t → t ≤ 7 → IsSound v least left rest t → IsNext v least left rest (item_of v left rest) (drop (item_length v rest) rest)
+    by (suc zero) low high s = rw s.known.tag (read_next v least left rest left_fits s)
+    by (suc (suc zero)) low high s = rw s.known.tag (write_next v least left rest s)
+    by (suc (suc (suc zero))) low high s = rw s.known.tag (no_data v least left rest _ (fixed_length v 3) (clock_next v least left rest s))
+    by (suc (suc (suc (suc zero)))) low high s = rw s.known.tag (no_data v least left rest _ (fixed_length v 4) (other_next v least left rest s))
+    by (suc (suc (suc (suc (suc zero))))) low high s = rw s.known.tag (no_data v least left rest _ (fixed_length v 5) (exit_next v least left rest s))
+    by (suc (suc (suc (suc (suc (suc zero)))))) low high s = rw s.known.tag (no_data v least left rest _ (fixed_length v 6) (trap_next v least left rest s))
+    by (suc (suc (suc (suc (suc (suc (suc zero))))))) low high s = rw s.known.tag (no_data v least left rest _ (fixed_length v 7) (limit_next v least left rest s))
+    by t low high s = absurd (omega arith)

@@ -115,10 +115,9 @@ headed bytes h =
 begins_with : (v : Version) (a b : Bool) → (if a then Some One else (if b then Some Two else None)) ≡ Some v → (bytes : List ℕ) → starts_with nat_eq bytes (magic One) ≡ a → starts_with nat_eq bytes (magic Two) ≡ b
     → starts_with nat_eq bytes (magic v) ≡ true
 begins_with One true b e bytes p q = p
-begins_with Two true b e bytes p q = absurd cc
 begins_with One false true e bytes p q = absurd cc
 begins_with Two false true e bytes p q = q
-begins_with v false false e bytes p q = absurd cc
+begins_with v a b e bytes p q = absurd cc
 
 magic_first : (v : Version) (bytes : List ℕ) → version_of bytes ≡ Some v → magic v ≡ take 8 bytes
 magic_first One bytes e = (bytes_eq-Decides (magic One) (take 8 bytes)).0 (begins_with One _ _ e bytes refl refl)

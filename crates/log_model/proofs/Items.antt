@@ -4,7 +4,7 @@ use Rattle.std.specs.Prelude.{slice_index}
 use Rattle.log_model.specs.declared.Version.{Version}
 use Rattle.log_model.specs.declared.Version.TheVariants.{One, Two}
 use Rattle.log_model.specs.declared.CallRecord.{CallRecord}
-use Rattle.log_model.specs.declared.CallRecord.TheVariants.{Read, Write, Clock, Other}
+use Rattle.log_model.specs.declared.CallRecord.TheVariants.{Read}
 use Rattle.log_model.specs.declared.Item.{Item}
 use Rattle.log_model.specs.declared.Item.TheVariants.{Call, End}
 use Rattle.log_model.specs.Logs.{at_of, end_at, record_text, end_text, IsRecord, IsEnd}
@@ -30,9 +30,7 @@ IsFront Two bytes channel = channel ≡ bytes ++ drop (length bytes) channel
 
 abbrev pub IsCallOf : Version → List (List ℕ) → CallRecord → Type 0
 IsCallOf v left (Read at args result bytes) = IsFront v bytes (get_or left (slice_index args 0) [])
-IsCallOf v left (Write at args result bytes) = Unit {0}
-IsCallOf v left (Clock at value) = Unit {0}
-IsCallOf v left (Other at number) = Unit {0}
+IsCallOf v left r = Unit {0}
 
 -- what is left of the channels allows it
 abbrev pub IsItemOf : Version → List (List ℕ) → Item → Type 0

@@ -8,14 +8,14 @@ use Rattle.std.proofs.lemmas.List.FromFn.{length-map-range_with_len, get_or-map-
 use Rattle.log_model.specs.declared.Version.{Version}
 use Rattle.log_model.specs.declared.Version.TheVariants.{One, Two}
 use Rattle.log_model.specs.declared.CallRecord.{CallRecord}
-use Rattle.log_model.specs.declared.CallRecord.TheVariants.{Read, Write, Clock, Other}
+use Rattle.log_model.specs.declared.CallRecord.TheVariants.{Read, Write}
 use Rattle.log_model.specs.Moved.{received, received_by}
 use Rattle.log_model.specs.Faults.{taken, AreLeft, channel_count, step_end, are_left, IsRead}
 use Rattle.log_model.specs.Reading.{left_after}
 use Rattle.log_model.proofs.Items.{IsCallOf}
 use Rattle.lists.specs.Fields.{word_at}
 use Rattle.log_model.specs.declared.RunEnd.{RunEnd}
-use Rattle.log_model.specs.declared.RunEnd.TheVariants.{Exit, Trap, Limit}
+use Rattle.log_model.specs.declared.RunEnd.TheVariants.{Limit}
 use Rattle.log_model.specs.Logs.{Log, IsLog, IsRecord, IsEnd, CanHold, channel_text, kept_channels, at_of, end_at, record_text, end_text, log_text}
 use Rattle.log_model.proofs.Channels.{AreCounted}
 use Rattle.log_model.proofs.Headers.{IsHeaderAgain, log_again}
@@ -27,9 +27,7 @@ HasNone Two channels = Unit {0}
 
 nil_after : (call : CallRecord) → left_after call [] ≡ []
 nil_after (Read at args result bytes) = refl
-nil_after (Write at args result bytes) = refl
-nil_after (Clock at value) = refl
-nil_after (Other at number) = refl
+nil_after call = refl
 
 pub none_after : (v : Version) (channels : List (List ℕ)) (call : CallRecord) → HasNone v channels → HasNone v (left_after call channels)
 none_after One channels call e = ap (left_after call) e ∙ nil_after call
@@ -37,9 +35,7 @@ none_after Two channels call e = tt
 
 pub length-left_after : (call : CallRecord) (channels : List (List ℕ)) → length (left_after call channels) ≡ length channels
 length-left_after (Read at args result bytes) channels = length-set channels (slice_index args 0) _
-length-left_after (Write at args result bytes) channels = refl
-length-left_after (Clock at value) channels = refl
-length-left_after (Other at number) channels = refl
+length-left_after call channels = refl
 
 -- what a call takes from a channel
 abbrev took : Version → ℕ → CallRecord → List ℕ
@@ -84,8 +80,7 @@ call_took : (v : Version) (channels : List (List ℕ)) (call : CallRecord) → H
 call_took One channels call none is c = ap (λ (x : List (List ℕ)). get_or x c []) (none ∙ sym (none_after One channels call none))
 call_took Two channels (Read at args result bytes) none is c = read_took channels (slice_index args 0) bytes is c
 call_took Two channels (Write at args result bytes) none is c = if_nil (eqb (slice_index args 0) c) (get_or channels c [])
-call_took Two channels (Clock at value) none is c = refl
-call_took Two channels (Other at number) none is c = refl
+call_took Two channels call none is c = refl
 
 -- ---- from the whole to the first call
 
@@ -100,9 +95,7 @@ call_of One channels (Read at args result bytes) calls left are = tt
 call_of Two channels (Read at args result bytes) calls left are =
     let k = slice_index args 0 in
     read_of channels k bytes (received k calls) (get_or left k []) (are.each k)
-call_of v channels (Write at args result bytes) calls left are = tt
-call_of v channels (Clock at value) calls left are = tt
-call_of v channels (Other at number) calls left are = tt
+call_of v channels call calls left are = tt
 
 pub left_next : (v : Version) (channels : List (List ℕ)) (call : CallRecord) (calls : List CallRecord) (left : List (List ℕ)) → HasNone v channels → AreLeft v channels (call ∷ calls) left
     → AreLeft v (left_after call channels) calls left
@@ -138,9 +131,8 @@ abbrev pub emptied : List (List ℕ) → List (List ℕ)
 emptied channels = map (λ c. []) channels
 
 emptied_at : (channels : List (List ℕ)) (c : ℕ) → get_or (emptied channels) c [] ≡ []
-emptied_at [] c = refl
-emptied_at (x ∷ channels) zero = refl
 emptied_at (x ∷ channels) (suc c) = emptied_at channels c
+emptied_at channels c = refl
 
 pub none_left : (channels : List (List ℕ)) → are_left (emptied channels) ≡ false
 none_left [] = refl
@@ -173,18 +165,15 @@ kept_left v log held = record {
 
 call_below : (r : CallRecord) → IsRecord r → at_of r < 2 ^ 64
 call_below (Read at args result bytes) h = omega (arith, h.0)
-call_below (Write at args result bytes) h = omega (arith, h.0)
-call_below (Clock at value) h = omega (arith, h.0)
-call_below (Other at number) h = omega (arith, h.0)
+call_below r h = omega (arith, h.0)
 
 calls_below : (rs : List CallRecord) → AllByRecursion IsRecord rs → AllByRecursion (λ r. at_of r < 2 ^ 64) rs
 calls_below [] h = tt
 calls_below (r ∷ rs) h = (call_below r h.0, calls_below rs h.1)
 
 end_below : (e : RunEnd) → IsEnd e → end_at e < 2 ^ 64
-end_below (Exit at code) h = omega (arith, h.0)
-end_below (Trap at kind pc) h = omega (arith, h.0)
 end_below (Limit at) h = omega (arith, h)
+end_below e h = omega (arith, h.0)
 
 calls_written : (v : Version) (log : Log) → IsLog log → CanHold v log → AllByRecursion (λ r. at_of r < step_end v) log.records
 calls_written One log is held = held.0

@@ -6,7 +6,7 @@ use Rattle.lists.specs.Fields.{word_at}
 use Rattle.log_model.specs.declared.Version.{Version}
 use Rattle.log_model.specs.declared.Version.TheVariants.{One, Two}
 use Rattle.log_model.specs.declared.CallRecord.{CallRecord}
-use Rattle.log_model.specs.declared.CallRecord.TheVariants.{Read, Write, Clock, Other}
+use Rattle.log_model.specs.declared.CallRecord.TheVariants.{Read}
 use Rattle.log_model.specs.declared.RunEnd.{RunEnd}
 use Rattle.log_model.specs.declared.Item.{Item}
 use Rattle.log_model.specs.declared.Item.TheVariants.{Call, End}
@@ -159,9 +159,7 @@ all_read v bytes channels rest stand all =
 
 pub text_some : (v : Version) (call : CallRecord) → 1 ≤ length (record_text v call)
 text_some v (Read at args result bytes) = omega arith
-text_some v (Write at args result bytes) = omega arith
-text_some v (Clock at value) = omega arith
-text_some v (Other at number) = omega arith
+text_some v call = omega arith
 
 pub no_more_than_bytes : (v : Version) (calls : List CallRecord) → length calls ≤ length (flat_map (record_text v) calls)
 no_more_than_bytes v [] = omega arith

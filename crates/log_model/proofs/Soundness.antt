@@ -7,9 +7,9 @@ use Rattle.std.proofs.lemmas.Bool.{cases_eq}
 use Rattle.std.proofs.lemmas.List.{append-nil, take_at, drop_at, get_or-set_other, length-append, length-drop, length-take}
 use Rattle.log_model.specs.declared.Version.{Version}
 use Rattle.log_model.specs.declared.CallRecord.{CallRecord}
-use Rattle.log_model.specs.declared.CallRecord.TheVariants.{Read, Write, Clock, Other}
+use Rattle.log_model.specs.declared.CallRecord.TheVariants.{Read}
 use Rattle.log_model.specs.declared.RunEnd.{RunEnd}
-use Rattle.log_model.specs.declared.RunEnd.TheVariants.{Exit, Trap, Limit}
+use Rattle.log_model.specs.declared.RunEnd.TheVariants.{Exit}
 use Rattle.log_model.specs.declared.Item.{Item}
 use Rattle.log_model.specs.declared.Item.TheVariants.{Call, End}
 use Rattle.log_model.specs.declared.LogKind.{LogKind}
@@ -101,8 +101,7 @@ sound_end v least end offset bytes (b ∷ after) channels last next e =
 item_some : (v : Version) (item : Item) → 1 ≤ length (item_text v item)
 item_some v (Call call) = text_some v call
 item_some v (End (Exit at code)) = omega arith
-item_some v (End (Trap at kind pc)) = omega arith
-item_some v (End (Limit at)) = omega arith
+item_some v (End e) = omega arith
 
 -- what is known where an item is at the front
 record IsStep (v : Version) (least offset end : ℕ) (channels : List (List ℕ)) (rest : List ℕ) (item : Item) : Type 0 where
@@ -132,9 +131,7 @@ read_left channels k n all c =
 
 all_after : (call : CallRecord) (channels : List (List ℕ)) → AreAllBytes channels → AreAllBytes (left_after call channels)
 all_after (Read at args result bytes) channels all = read_left channels (slice_index args 0) (length bytes) all
-all_after (Write at args result bytes) channels all = all
-all_after (Clock at value) channels all = all
-all_after (Other at number) channels all = all
+all_after call channels all = all
 
 -- that holds of shorter bytes
 abbrev OfShorter : Version → ℕ → ℕ → ℕ → Type 0

@@ -11,9 +11,9 @@ use Rattle.std.proofs.lemmas.Int.{ints}
 use Rattle.log_model.specs.declared.Version.{Version}
 use Rattle.log_model.specs.declared.Version.TheVariants.{One, Two}
 use Rattle.log_model.specs.declared.CallRecord.{CallRecord}
-use Rattle.log_model.specs.declared.CallRecord.TheVariants.{Read, Write, Clock, Other}
+use Rattle.log_model.specs.declared.CallRecord.TheVariants.{Read, Write}
 use Rattle.log_model.specs.declared.RunEnd.{RunEnd}
-use Rattle.log_model.specs.declared.RunEnd.TheVariants.{Exit, Trap, Limit}
+use Rattle.log_model.specs.declared.RunEnd.TheVariants.{Exit}
 use Rattle.log_model.specs.declared.LogKind.TheVariants.{Trailing}
 use Rattle.log_model.specs.Moved.{received, received_by}
 use Rattle.log_model.specs.Logs.{Log, IsLog, IsTextOf, CanHold, IsTransfer, moved_length, magic, log_text, header_text, channel_text, kept_channels, record_text, end_text, kept_length, share, step_text, word32, signed32}
@@ -34,11 +34,8 @@ transfer_length v t at args outcome bytes after is =
     omega (arith, twelve, length-step_text v at, length-append (step_text v at) fields, length-append (step_text v at ++ fields) (signed32 outcome), length-append (step_text v at ++ fields ++ signed32 outcome) after)
   where
     args_length : (args : List ℕ) → length args ≡ 3 → length (flat_map word32 args) ≡ 12
-    args_length [] e = absurd (omega (arith, e))
-    args_length (a ∷ []) e = absurd (omega (arith, e))
-    args_length (a ∷ b ∷ []) e = absurd (omega (arith, e))
     args_length (a ∷ b ∷ c ∷ []) e = refl
-    args_length (a ∷ b ∷ c ∷ d ∷ args) e = absurd (omega (arith, e))
+    args_length args e = absurd (omega (arith, e))
 
 -- in version 2 a read's record has 25 bytes, and a write's as many and its data
 pub read_length : (at : ℕ) (args : List ℕ) (outcome : ℤ) (bytes : List ℕ) → IsTransfer args outcome bytes → length (record_text Two (Read at args outcome bytes)) ≡ 25
@@ -74,8 +71,7 @@ kept_more n (Read at args result bytes) =
       ]
     ]
 kept_more n (Write at args result bytes) = no_bytes (eqb (slice_index args 0) n)
-kept_more n (Clock at value) = refl
-kept_more n (Other at number) = refl
+kept_more n r = refl
 
 kept_sum_more : (n : ℕ) (rs : List CallRecord) → sum_by (kept_length (n + 1)) rs ≡ sum_by (kept_length n) rs + length (received n rs)
 kept_sum_more n [] = refl
@@ -88,9 +84,7 @@ kept_none [] = refl
 kept_none (r ∷ rs) = omega (arith, none r, kept_none rs, sum_by-cons (kept_length 0) r rs) where
   none : (r : CallRecord) → kept_length 0 r ≡ 0
   none (Read at args result bytes) = rw (le-ltb (slice_index args 0) 0 (omega arith)) refl
-  none (Write at args result bytes) = refl
-  none (Clock at value) = refl
-  none (Other at number) = refl
+  none r = refl
 
 -- what so many channels keep is what they keep of each record
 channels_sum : (n : ℕ) (rs : List CallRecord) → sum_by length (map (λ c. received c rs) (range_with_len 0 n)) ≡ sum_by (kept_length n) rs
@@ -164,9 +158,7 @@ share_most : (inputs : ℕ) (r : CallRecord) → share inputs r ≤ length (reco
 share_most inputs (Read at args result bytes) =
     let fields = flat_map word32 args in
     omega (arith, kept_most (nat_lt (slice_index args 0) inputs) bytes, length-append fields (signed32 result), length-append (fields ++ signed32 result) bytes, length-append (fields ++ signed32 result) [])
-share_most inputs (Write at args result bytes) = omega arith
-share_most inputs (Clock at value) = omega arith
-share_most inputs (Other at number) = omega arith
+share_most inputs r = omega arith
 
 shares_most : (inputs : ℕ) (rs : List CallRecord) → sum_by (share inputs) rs ≤ sum_by (λ r. length (record_text One r)) rs + 4 * length rs
 shares_most inputs [] = omega arith
@@ -174,8 +166,7 @@ shares_most inputs (r ∷ rs) = omega (arith, share_most inputs r, shares_most i
 
 end_most : (e : RunEnd) → length (end_text Two e) ≡ length (end_text One e) + 4
 end_most (Exit at code) = refl
-end_most (Trap at kind pc) = refl
-end_most (Limit at) = refl
+end_most e = refl
 
 pub wide-le-narrow : (log : Log) → IsLog log → length (log_text Two log) ≤ length (log_text One log) + 4 * length log.records + 4 * log.inputs + 4
 wide-le-narrow log is = omega (arith, narrow_length log is, wide_length log is, shares_most log.inputs log.records, end_most log.end)
@@ -184,8 +175,7 @@ wide-le-narrow log is = omega (arith, narrow_length log is, wide_length log is, 
 nine : (r : CallRecord) → 9 ≤ length (record_text One r)
 nine (Read at args result bytes) = omega (arith, length-append (flat_map word32 args) (signed32 result), length-append (flat_map word32 args ++ signed32 result) bytes)
 nine (Write at args result bytes) = omega (arith, length-append (flat_map word32 args) (signed32 result), length-append (flat_map word32 args ++ signed32 result) bytes)
-nine (Clock at value) = omega arith
-nine (Other at number) = omega arith
+nine r = omega arith
 
 nines : (rs : List CallRecord) → 9 * length rs ≤ sum_by (λ r. length (record_text One r)) rs
 nines [] = omega arith

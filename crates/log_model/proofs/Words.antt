@@ -3,15 +3,14 @@ use Rattle.std.proofs.Common.{◌≡◌, ℕ, zero, suc, ◌+◌, ◌^◌, ◌<�
 use Rattle.std.proofs.lemmas.List.{take-append-drop, drop-drop, drop_more, length-take, length-drop}
 use Rattle.std.proofs.lemmas.Nat.{le_bytes_4, le_bytes_8, from_le_bytes-to_le_bytes_4, from_le_bytes-to_le_bytes_8}
 use Rattle.lists.specs.Fields.{word_at}
+use Rattle.lists.proofs.Numbers.{get_or-below}
 use Rattle.log_model.specs.declared.Version.{Version}
 use Rattle.log_model.specs.declared.Version.TheVariants.{One, Two}
 use Rattle.log_model.specs.Logs.{word32, word64, step_text, IsBytes}
 use Rattle.log_model.specs.Faults.{long_at, step_length, step_of, fields_of, step_end}
 
 pub byte_below : (bytes : List ℕ) → IsBytes bytes → (i : ℕ) → get_or bytes i 0 < 256
-byte_below [] h i = omega arith
-byte_below (b ∷ bytes) h zero = h.0
-byte_below (b ∷ bytes) h (suc i) = byte_below bytes h.1 i
+byte_below bytes h = get_or-below 256 bytes (omega arith) h
 
 pub IsBytes-each : (bytes : List ℕ) → ((i : ℕ) → get_or bytes i 0 < 256) → IsBytes bytes
 IsBytes-each [] h = tt

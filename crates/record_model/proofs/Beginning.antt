@@ -1,9 +1,9 @@
 -- The state that a program begins in is sound. Crates above cite these lemmas.
-use Rattle.std.proofs.Common.{◌≡◌, ℕ, zero, suc, ◌+◌, ◌-◌, ◌*◌, ◌/◌, ◌^◌, ◌<◌, ◌≤◌, ◌⊎◌, inl, inr, Bool, true, false, List, [], ◌∷◌, map, length, get_or, take, drop, replicate, Option, Some, None, Result, Ok, Err, refl, arith, ap, sym, ◌∙◌, subst, leb-true, ltb-false, length-take, get_or-take, get_or-drop}
+use Rattle.std.proofs.Common.{◌≡◌, ℕ, zero, suc, ◌+◌, ◌-◌, ◌*◌, ◌/◌, ◌^◌, ◌<◌, ◌≤◌, Bool, true, false, List, [], ◌∷◌, map, length, get_or, drop, replicate, Option, Some, None, Result, Ok, Err, refl, arith, ap, sym, ◌∙◌, subst, leb-true, ltb-false, length-take}
 use Rattle.std.specs.Prelude.{nat_le, nat_lt, if◌then◌else◌}
 use Rattle.std.specs.List.{AllByRecursion, list_all}
-use Rattle.std.proofs.lemmas.Bool.{and_parts, cases_lt, or_parts}
-use Rattle.std.proofs.lemmas.List.{get_or_past, length-replicate}
+use Rattle.std.proofs.lemmas.Bool.{and_parts, or_parts}
+use Rattle.std.proofs.lemmas.List.{length-replicate}
 use Rattle.isa.specs.Machine.{State, overwritten}
 use Rattle.isa.proofs.Window.{length-overwritten}
 use Rattle.elf_model.specs.declared.ImageKind.{ImageKind}
@@ -13,7 +13,7 @@ use Rattle.elf_model.specs.Image.{Image, LoadedSegment, ProgramHeader, e_entry, 
 use Rattle.elf_model.specs.Window.{start_of, start_with, start_in, can_hold, laid_out}
 use Rattle.replay_model.specs.Fits.{start_in_image}
 use Rattle.record_model.specs.States.{IsSound}
-use Rattle.record_model.proofs.Sound.{AreBytes, put_bytes, are_bytes}
+use Rattle.record_model.proofs.Sound.{AreBytes, part_bytes, put_bytes, are_bytes}
 
 -- ---- segments
 
@@ -22,15 +22,8 @@ pub record IsGood (base : ℕ) (s : LoadedSegment) : Type 0 where
   pub short : length s.bytes ≤ s.size
   pub bytes : AreBytes s.bytes
 
-piece_bytes : (file : List ℕ) (n i : ℕ) → AreBytes file → AreBytes (take n (drop i file))
-piece_bytes file n i h k = by (cases_lt k n)
-  where
-    by : (k < n) ⊎ (n ≤ k) → get_or (take n (drop i file)) k 0 < 2 ^ 8
-    by (inl g) = subst (λ (x : ℕ). x < 2 ^ 8) (sym (get_or-take n (drop i file) k 0 g ∙ get_or-drop i file k 0)) (h (i + k))
-    by (inr g) = subst (λ (x : ℕ). x < 2 ^ 8) (sym (get_or_past (take n (drop i file)) k 0 (omega (arith, length-take n (drop i file))))) (omega arith)
-
 good_segment : (file : List ℕ) (base : ℕ) (h : ProgramHeader) → AreBytes file → base ≤ h.p_vaddr → h.p_filesz ≤ h.p_memsz → IsGood base (segment file h)
-good_segment file base h b x y = record { above = x; short = omega (arith, length-take h.p_filesz (drop h.p_offset file)); bytes = piece_bytes file h.p_filesz h.p_offset b }
+good_segment file base h b x y = record { above = x; short = omega (arith, length-take h.p_filesz (drop h.p_offset file)); bytes = part_bytes file h.p_filesz h.p_offset b }
 
 pub record IsRight (n before : ℕ) (h : ProgramHeader) : Type 0 where
   pub short : h.p_filesz ≤ h.p_memsz
@@ -74,12 +67,16 @@ segments_right file e = (all_false (faults file) e).1.1.1.1.1.1.1.0
 abbrev IsGoodImage : Image → Type 0
 IsGoodImage im = AllByRecursion (IsGood im.base) im.segments
 
-good_image : (file : List ℕ) (im : Image) → AreBytes file → image file ≡ Ok im → IsGoodImage im
-good_image file im b e = by (first_true (faults file)) refl e
+-- a file with an image has no fault
+no_fault : (file : List ℕ) (im : Image) → image file ≡ Ok im → (first_true (faults file) ≡ None) × (image_of file ≡ im)
+no_fault file im e = by (first_true (faults file)) refl e
   where
-    by : (o : Option ImageKind) → first_true (faults file) ≡ o → unless_faulty file o ≡ Ok im → IsGoodImage im
-    by None f e = let same : image_of file ≡ im = cc in subst IsGoodImage same (good_all file (length file) (loaded_headers file) b (segments_right file f))
+    by : (o : Option ImageKind) → first_true (faults file) ≡ o → unless_faulty file o ≡ Ok im → (first_true (faults file) ≡ None) × (image_of file ≡ im)
+    by None f e = (f, cc)
     by (Some fault) f e = cc
+
+good_image : (file : List ℕ) (im : Image) → AreBytes file → image file ≡ Ok im → IsGoodImage im
+good_image file im b e = let none = no_fault file im e in subst IsGoodImage none.1 (good_all file (length file) (loaded_headers file) b (segments_right file none.0))
 
 -- ---- the window
 
@@ -136,16 +133,9 @@ good_start im pages s g e = by (can_hold im pages) refl e
         subst (IsBegun im.entry pages) same (record { sound = sound; pc = refl; size = w.long })
     by false f e = cc
 
-image_entry : (file : List ℕ) (im : Image) → image file ≡ Ok im → im.entry ≡ e_entry file
-image_entry file im e = by (first_true (faults file)) e
-  where
-    by : (o : Option ImageKind) → unless_faulty file o ≡ Ok im → im.entry ≡ e_entry file
-    by None e = let same : im ≡ image_of file = cc in ap (λ (x : Image). x.entry) same
-    by (Some fault) e = cc
-
 pub begins : (program : List ℕ) (pages : ℕ) (s : State) → AllByRecursion (λ b. b < 256) program → start_in_image (image program) pages ≡ Some s → IsBegun (e_entry program) pages s
 begins program pages s b e = by (image program) refl e
   where
     by : (r : Result Image ImageKind) → image program ≡ r → start_in_image r pages ≡ Some s → IsBegun (e_entry program) pages s
-    by (Ok im) f e = subst (λ (n : ℕ). IsBegun n pages s) (image_entry program im f) (good_start im pages s (good_image program im (are_bytes program b) f) e)
+    by (Ok im) f e = subst (λ (n : ℕ). IsBegun n pages s) (sym (ap (λ (x : Image). x.entry) (no_fault program im f).1)) (good_start im pages s (good_image program im (are_bytes program b) f) e)
     by (Err fault) f e = cc

@@ -7,7 +7,7 @@ use Rattle.std.proofs.lemmas.Bool.{eqb-true}
 use Rattle.std.proofs.lemmas.List.{take-append-drop, nil_from_length}
 use Rattle.isa.specs.Calls.{length_of}
 use Rattle.log_model.specs.declared.CallRecord.{CallRecord}
-use Rattle.log_model.specs.declared.CallRecord.TheVariants.{Read, Write, Clock, Other}
+use Rattle.log_model.specs.declared.CallRecord.TheVariants.{Read, Write}
 use Rattle.log_model.specs.Logs.{Log, IsRecord}
 use Rattle.log_model.specs.Moved.{received, received_by}
 use Rattle.log_model.proofs.Moved.{received-push}
@@ -49,10 +49,7 @@ one_more inputs piece before (Read at args (negsuc n) bytes) c form next front =
     (either (get_or args 0 0 == c) bytes [] (nil_from_length bytes form.1.whole) refl) (front c)
 one_more inputs piece before (Write at args result bytes) c form next front =
     no_more (received c before) (input_of inputs c) _ (either (get_or args 0 0 == c) [] [] refl refl) (front c)
-one_more inputs piece before (Clock at value) c form next front = no_more (received c before) (input_of inputs c) []
-    refl (front c)
-one_more inputs piece before (Other at number) c form next front = no_more (received c before) (input_of inputs c) []
-    refl (front c)
+one_more inputs piece before r c form next front = no_more (received c before) (input_of inputs c) [] refl (front c)
 
 all_more : (inputs : List (List ℕ)) (piece : ℕ) (before rs : List CallRecord) → AllByRecursion IsRecord rs
     → AllReadNext inputs piece before rs → ((d : ℕ) → IsFrontOf (received d before) (input_of inputs d)) → (c : ℕ)

@@ -1,5 +1,5 @@
 -- Every run that can be recorded has a recording. Crates above cite these lemmas.
-use Rattle.std.proofs.Common.{◌≡◌, ℕ, zero, suc, ◌+◌, ◌-◌, ◌^◌, ◌<◌, ◌≤◌, List, [], ◌∷◌, ◌++◌, length, map, drop, ℤ, pos, negsuc, Option, Some, None, refl, arith, ap, sym, ◌∙◌, subst, append-nil, length-take, length-drop}
+use Rattle.std.proofs.Common.{◌≡◌, ℕ, zero, suc, ◌+◌, ◌^◌, ◌<◌, ◌≤◌, List, [], ◌∷◌, ◌++◌, length, map, drop, ℤ, pos, negsuc, Option, Some, None, refl, arith, ap, sym, ◌∙◌, subst, append-nil, length-take, length-drop}
 use Rattle.std.specs.Prelude.{min, IsSome}
 use Rattle.std.specs.Int.{w32, to_be_bytes}
 use Rattle.std.specs.List.{AllByRecursion, range_with_len}
@@ -15,10 +15,10 @@ use Rattle.log_model.specs.declared.RunEnd.{RunEnd}
 use Rattle.log_model.specs.declared.RunEnd.TheVariants.{Exit, Trap, Limit}
 use Rattle.log_model.specs.Logs.{Log, IsBytes, IsRecord, IsEnd, Rise, least_after, end_at}
 use Rattle.log_model.specs.Moved.{received}
-use Rattle.log_model.proofs.Words.{IsBytes-take, IsBytes-drop, word_below}
+use Rattle.log_model.proofs.Words.{IsBytes-each, IsBytes-take, IsBytes-drop, word_below}
 use Rattle.elf_model.specs.Image.{image, e_entry}
 use Rattle.replay_model.specs.Run.{state_after}
-use Rattle.replay_model.specs.Comparison.{arguments_of, CallOf, kept_event, call_event, divergence}
+use Rattle.replay_model.specs.Comparison.{arguments_of, CallOf, kept_event, call_event}
 use Rattle.replay_model.specs.Fits.{start_in_image}
 use Rattle.sha2.specs.Sha256.{sha256, digest_bytes}
 use Rattle.sha2.proofs.Facts256.{length-sha256}
@@ -28,14 +28,10 @@ use Rattle.record_model.specs.Recorded.{Setting, CanRecord, Recording, AllReadNe
 use Rattle.record_model.specs.Calls.{bytes_of}
 use Rattle.record_model.proofs.Calls.{Moves, next_record, next_here, part_few, read_form, write_form}
 use Rattle.record_model.proofs.Pushes.{values_push}
-use Rattle.record_model.proofs.Runs.{RunsTo, runs_none, runs_plain, runs_call, runs_end, runs_cut}
+use Rattle.record_model.proofs.Runs.{RunsTo, EndsSo, runs_none, runs_plain, runs_call, runs_end, runs_cut}
 use Rattle.record_model.proofs.States.{IsReached, is_fine, reached_next, reached_call}
 
 -- ---- bytes
-
-bytes_by : (xs : List ℕ) → AreBytes xs → IsBytes xs
-bytes_by [] h = tt
-bytes_by (x ∷ xs) h = (h 0, bytes_by xs (λ k. h (suc k)))
 
 bytes_at_channel : (inputs : List (List ℕ)) (channel : ℕ) → AllByRecursion IsBytes inputs → IsBytes (input_of inputs channel)
 bytes_at_channel [] channel h = tt
@@ -47,10 +43,7 @@ part_bytes inputs piece offset args h =
     IsBytes-take (min (length_of args) piece) (drop offset (input_of inputs (channel_of args))) (IsBytes-drop offset (input_of inputs (channel_of args)) (bytes_at_channel inputs (channel_of args) h))
 
 part_small : (inputs : List (List ℕ)) (piece offset : ℕ) (args : List ℕ) → length (part_of inputs piece offset args) ≤ min piece (length (input_of inputs (channel_of args)))
-part_small inputs piece offset args =
-    let short = length-take (min (length_of args) piece) (drop offset (input_of inputs (channel_of args))) in
-    let rest = length-drop offset (input_of inputs (channel_of args)) in
-    omega arith
+part_small inputs piece offset args = omega (arith, length-take {A = ℕ}, length-drop {A = ℕ})
 
 moved_bytes : (refused : ℤ) (whole : List ℕ) → IsBytes whole → IsBytes (bytes_of refused whole)
 moved_bytes (pos n) whole h = h
@@ -93,13 +86,10 @@ module _ (st : Setting) (clock : ℕ → ℕ) (can : CanRecord st) (small : (k :
       (moves s _ part h (part_bytes st.inputs st.piece offset (arguments_of s) can.inputs) (omega arith))
   next_form done n t s kind.Write early h =
       let whole = bytes_at s (reg s 11) (reg s 12) in
-      let short = length-take (reg s 12) (drop (reg s 11 - s.base) s.memory) in
-      let rest = length-drop (reg s 11 - s.base) s.memory in
       let size = h.size in
-      write_form t s early (moves s _ whole h (bytes_by whole (window_bytes s h.sound (reg s 11) (reg s 12))) (omega arith))
+      write_form t s early (moves s _ whole h (IsBytes-each whole (window_bytes s h.sound (reg s 11) (reg s 12))) (omega (arith, length-take {A = ℕ}, length-drop {A = ℕ})))
   next_form done n t s kind.Clock early h = (early, small n)
-  next_form done n t s kind.Other early h = (early, h.sound.words 17)
-  next_form done n t s kind.Exit early h = (early, h.sound.words 17)
+  next_form done n t s k early h = (early, h.sound.words 17)
 
   -- ---- a run to its end
 
@@ -115,7 +105,7 @@ module _ (st : Setting) (clock : ℕ → ℕ) (can : CanRecord st) (small : (k :
     values : clock_values records ≡ map clock (range_with_len 0 asked)
     is_end : IsEnd end
     within : EndsWithin st.steps end
-    agrees : (log : Log) → log.inputs ≡ length st.inputs → log.records ≡ records → log.end ≡ end → divergence start log ≡ None
+    agrees : EndsSo start st.inputs st.piece records end
 
   -- after these calls, in which the clock answered n times
   record IsAt (start : State) (n : ℕ) (done : List CallRecord) (t : ℕ) (s : State) : Type 0 where
@@ -128,7 +118,7 @@ module _ (st : Setting) (clock : ℕ → ℕ) (can : CanRecord st) (small : (k :
   IsRecordedFrom start k = (n t : ℕ) (done : List CallRecord) (s : State) → t + k ≡ st.steps → IsAt start n done t s → RecordedRun start
 
   ended : (start : State) (n t : ℕ) (done : List CallRecord) (s : State) (end : RunEnd) → IsAt start n done t s → end_at end ≡ t → IsEnd end → EndsWithin st.steps end
-      → ((log : Log) → log.inputs ≡ length st.inputs → log.records ≡ done → log.end ≡ end → divergence start log ≡ None) → RecordedRun start
+      → EndsSo start st.inputs st.piece done end → RecordedRun start
   ended start n t done s end at here is_end within agrees =
       let before = at.runs.before in
       record {
@@ -153,22 +143,16 @@ module _ (st : Setting) (clock : ℕ → ℕ) (can : CanRecord st) (small : (k :
 
   -- how often the clock was asked after a call
   abbrev asked_after : CallKind → ℕ → ℕ
-  asked_after kind.Read n = n
-  asked_after kind.Write n = n
   asked_after kind.Clock n = n + 1
-  asked_after kind.Other n = n
-  asked_after kind.Exit n = n
+  asked_after k n = n
 
   values_after : (done : List CallRecord) (n t : ℕ) (s : State) (k : CallKind) → clock_values done ≡ map clock (range_with_len 0 n)
       → clock_values (done ++ next_record st.inputs st.piece done (next_answer clock n) t s k ∷ []) ≡ map clock (range_with_len 0 (asked_after k n))
   values_after done n t s k v = values_push done (next_record st.inputs st.piece done (next_answer clock n) t s k) ∙ by k
     where
       by : (k : CallKind) → clock_values done ++ clock_values_of (next_record st.inputs st.piece done (next_answer clock n) t s k) ≡ map clock (range_with_len 0 (asked_after k n))
-      by kind.Read = append-nil (clock_values done) ∙ v
-      by kind.Write = append-nil (clock_values done) ∙ v
       by kind.Clock = ap (λ (xs : List ℕ). xs ++ clock n ∷ []) v ∙ sym (map-range_with_len_more clock 0 n n (omega arith))
-      by kind.Other = append-nil (clock_values done) ∙ v
-      by kind.Exit = append-nil (clock_values done) ∙ v
+      by k = append-nil (clock_values done) ∙ v
 
   -- a call other than the exit gets its record
   answered : (start : State) (k : ℕ) → IsRecordedFrom start k → (n t : ℕ) (done : List CallRecord) (s : State) (c : CallKind) → t + suc k ≡ st.steps → IsAt start n done t s
@@ -186,15 +170,12 @@ module _ (st : Setting) (clock : ℕ → ℕ) (can : CanRecord st) (small : (k :
 
   called : (start : State) (k : ℕ) → IsRecordedFrom start k → (n t : ℕ) (done : List CallRecord) (s : State) (c : CallKind) → (call_of s).kind ≡ c → t + suc k ≡ st.steps → IsAt start n done t s
       → next s ≡ Called (call_of s) → RecordedRun start
-  called start k later n t done s kind.Read is e at calls = answered start k later n t done s kind.Read e at calls (ap call_event is)
-  called start k later n t done s kind.Write is e at calls = answered start k later n t done s kind.Write e at calls (ap call_event is)
-  called start k later n t done s kind.Clock is e at calls = answered start k later n t done s kind.Clock e at calls (ap call_event is)
-  called start k later n t done s kind.Other is e at calls = answered start k later n t done s kind.Other e at calls (ap call_event is)
   called start k later n t done s kind.Exit is e at calls =
       let most = can.steps in
       let early : t < st.steps = omega arith in
       ended start n t done s (Exit t (reg s 10)) at refl (omega arith, at.reached.sound.words 10) early
       (runs_end start st.inputs st.piece done t s (Exit t (reg s 10)) (refl, calls, is, refl) at.runs)
+  called start k later n t done s c is e at calls = answered start k later n t done s c e at calls (ap call_event is)
 
   stepped : (start : State) (k : ℕ) → IsRecordedFrom start k → (n t : ℕ) (done : List CallRecord) (s : State) (o : Outcome) → next s ≡ o → t + suc k ≡ st.steps → IsAt start n done t s → RecordedRun start
   stepped start k later n t done s (Retired u) o e at =

@@ -8,10 +8,11 @@ use Rattle.std.proofs.lemmas.List.{get_or_append_left, get_or-append_right, get_
 use Rattle.std.proofs.lemmas.Bool.{cases_lt, eqb-false, cases_eq}
 use Rattle.isa.proofs.Window.{Holds, length-overwritten, holds_by, wrap-lt, overwritten-nil}
 use Rattle.record_model.specs.States.{IsSound}
+use Rattle.lists.proofs.Numbers.{get_or-below}
 use Rattle.std.specs.List.{AllByRecursion}
 use Rattle.std.proofs.Math.ListN.{length-set}
 use Rattle.isa.specs.declared.Instr.{Instr}
-use Rattle.isa.specs.declared.Instr.TheVariants.{Lui, Xori, Ori, Andi, Srli, Srai, Xor, Srl, Sra, Or, And, Mulh, Mulhsu, Mulhu, Div, Divu, Rem, Remu}
+use Rattle.isa.specs.declared.Instr.TheVariants.{Lui}
 use Rattle.record_model.proofs.Values.{negative_word, signed_product_word, mixed_product_word, unsigned_product_word, quotient_word, remainder_word, unsigned_quotient_word, unsigned_remainder_word, InRange, signed_word}
 use Rattle.std.proofs.lemmas.Int.{ints}
 use Rattle.isa.specs.declared.Effect.{Effect}
@@ -38,8 +39,7 @@ pub data Size : ℕ → Type 0 where
 
 pub low_length : (n v : ℕ) → Size n → length (low_bytes n v) ≡ n
 low_length n v OneByte = refl
-low_length n v TwoBytes = refl
-low_length n v FourBytes = refl
+low_length n v z = refl
 
 -- the number that bytes stand for is a word
 pub bytes_word : (n : ℕ) → Size n → (bs : List ℕ) → length bs ≡ n → AreBytes bs → little_endian bs < 2 ^ 32
@@ -84,13 +84,16 @@ over_after mem j bs k g h =
 pub bytes_length : (s : State) (a n : ℕ) → Holds s.base (length s.memory) a n → length (bytes_at s a n) ≡ n
 bytes_length s a n h = let x = h.above in let y = h.below in length-take-le n (drop (a - s.base) s.memory) (omega (arith, length-drop (a - s.base) s.memory))
 
--- the bytes of a sound state's window
-pub window_bytes : (s : State) → IsSound s → (a n : ℕ) → AreBytes (bytes_at s a n)
-window_bytes s h a n k = by (cases_lt k n)
+-- a part of some bytes, as of a sound state's window
+pub part_bytes : (bytes : List ℕ) (n i : ℕ) → AreBytes bytes → AreBytes (take n (drop i bytes))
+part_bytes bytes n i h k = by (cases_lt k n)
   where
-    by : (k < n) ⊎ (n ≤ k) → get_or (bytes_at s a n) k 0 < 2 ^ 8
-    by (inl g) = subst (λ (x : ℕ). x < 2 ^ 8) (sym (get_or-take n (drop (a - s.base) s.memory) k 0 g ∙ get_or-drop (a - s.base) s.memory k 0)) (h.bytes (a - s.base + k))
-    by (inr g) = subst (λ (x : ℕ). x < 2 ^ 8) (sym (get_or_past (bytes_at s a n) k 0 (omega (arith, length-take n (drop (a - s.base) s.memory))))) (omega arith)
+    by : (k < n) ⊎ (n ≤ k) → get_or (take n (drop i bytes)) k 0 < 2 ^ 8
+    by (inl g) = subst (λ (x : ℕ). x < 2 ^ 8) (sym (get_or-take n (drop i bytes) k 0 g ∙ get_or-drop i bytes k 0)) (h (i + k))
+    by (inr g) = subst (λ (x : ℕ). x < 2 ^ 8) (sym (get_or_past (take n (drop i bytes)) k 0 (omega (arith, length-take n (drop i bytes))))) (omega arith)
+
+pub window_bytes : (s : State) → IsSound s → (a n : ℕ) → AreBytes (bytes_at s a n)
+window_bytes s h a n = part_bytes s.memory n (a - s.base) h.bytes
 
 abbrev pub set_in : State → ℕ → ℕ → ℕ → State
 set_in s p d v = record s { pc = p; registers = with_register s.registers d v }
@@ -201,11 +204,7 @@ extended_word true n v h = signed_word (8 * n) v h
 extended_word false n v h = h
 
 low_are_bytes : (n v : ℕ) → AreBytes (low_bytes n v)
-low_are_bytes n v k = by (cases_lt k n)
-  where
-    by : (k < n) ⊎ (n ≤ k) → get_or (low_bytes n v) k 0 < 2 ^ 8
-    by (inl g) = subst (λ (x : ℕ). x < 2 ^ 8) (sym (get_or-take n (to_le_bytes w32 v) k 0 g)) (byte_small v k)
-    by (inr g) = subst (λ (x : ℕ). x < 2 ^ 8) (sym (get_or_past (low_bytes n v) k 0 (omega (arith, length-take n (to_le_bytes w32 v))))) (omega arith)
+low_are_bytes n v = part_bytes (to_le_bytes w32 v) n 0 (byte_small v)
 
 and_word : (v w : ℕ) → v < 2 ^ 32 → bit_and v w < 2 ^ 32
 and_word v w h = let x = and_le_l v w in omega arith
@@ -219,27 +218,31 @@ IsSafe (Load d a n is_signed) = Size n
 IsSafe (Store a n v) = Size n
 IsSafe other = Unit {0}
 
+-- the values that are words, and the sizes
+ruleset values = (
+  wrap-lt,
+  flag_word,
+  xor_of_32,
+  or_of_32,
+  and_word,
+  shifted_word,
+  arithmetic_word,
+  signed_product_word,
+  mixed_product_word,
+  unsigned_product_word,
+  quotient_word,
+  remainder_word,
+  unsigned_quotient_word,
+  unsigned_remainder_word,
+  OneByte,
+  TwoBytes,
+  FourBytes,
+)
+
 module _ {s : State} (h : IsSound s) where
   is_safe : (i : Instr) → InRange i → IsSafe (effect_of s i)
   is_safe (Lui d imm) r = r.word
-  is_safe (Xori d a imm) r = xor_of_32 _ _ (h.words a) r.word
-  is_safe (Ori d a imm) r = or_of_32 _ _ (h.words a) r.word
-  is_safe (Andi d a imm) r = and_word _ _ (h.words a)
-  is_safe (Xor d a b) r = xor_of_32 _ _ (h.words a) (h.words b)
-  is_safe (Or d a b) r = or_of_32 _ _ (h.words a) (h.words b)
-  is_safe (And d a b) r = and_word _ _ (h.words a)
-  is_safe (Srli d a k) r = shifted_word _ _ (h.words a)
-  is_safe (Srl d a b) r = shifted_word _ _ (h.words a)
-  is_safe (Srai d a k) r = arithmetic_word _ _ (h.words a)
-  is_safe (Sra d a b) r = arithmetic_word _ _ (h.words a)
-  is_safe (Mulh d a b) r = signed_product_word _ _ (h.words a) (h.words b)
-  is_safe (Mulhsu d a b) r = mixed_product_word _ _ (h.words a) (h.words b)
-  is_safe (Mulhu d a b) r = unsigned_product_word _ _ (h.words a) (h.words b)
-  is_safe (Div d a b) r = quotient_word _ _ (h.words a)
-  is_safe (Divu d a b) r = unsigned_quotient_word _ _ (h.words a)
-  is_safe (Rem d a b) r = remainder_word _ _ (h.words a)
-  is_safe (Remu d a b) r = unsigned_remainder_word _ _ (h.words a)
-  is_safe other r = search (wrap-lt, flag_word, OneByte, TwoBytes, FourBytes)
+  is_safe other r = search (values, h.words, r.word)
 
   effect_sound : (e : Effect) → IsSafe e → Leaves (execute s e) IsSound
   effect_sound (SetRegister d v) g = sound_set s (wrap (s.pc + 4)) d v h g
@@ -274,9 +277,7 @@ read_room s inputs at args result (b ∷ bytes) form lawful =
 -- ---- calls keep a state sound
 
 pub are_bytes : (bs : List ℕ) → AllByRecursion (λ b. b < 256) bs → AreBytes bs
-are_bytes [] h k = omega arith
-are_bytes (b ∷ bs) h zero = h.0
-are_bytes (b ∷ bs) h (suc k) = are_bytes bs h.1 k
+are_bytes bs h = get_or-below 256 bs (omega arith) h
 
 result_word : (z : ℤ) → z <ℤ pos (2 ^ 31) → as_word z < 2 ^ 32
 result_word (pos n) h = let x : pos n <ℤ pos 2147483648 = h in omega (arith, ints)

@@ -1,16 +1,16 @@
 -- The states that a run reaches: they stay in range, and each step retires, calls as its registers say, or traps by a code of the
 -- standard's.
-use Rattle.std.proofs.Common.{◌≡◌, ℕ, ◌+◌, ◌-◌, ◌*◌, ◌/◌, ◌^◌, ◌<◌, ◌≤◌, inl, inr, Bool, true, false, [], ◌∷◌, length, refl, arith, subst, length-take}
+use Rattle.std.proofs.Common.{◌≡◌, ℕ, ◌+◌, ◌-◌, ◌*◌, ◌/◌, ◌^◌, ◌<◌, ◌≤◌, inl, inr, Bool, true, false, length, refl, arith, subst, length-take}
 use Rattle.std.specs.Int.{w32, to_le_bytes}
 use Rattle.isa.specs.declared.Instr.{Instr}
-use Rattle.isa.specs.declared.Instr.TheVariants.{Jal, Jalr, Beq, Bne, Blt, Bge, Bltu, Bgeu}
+use Rattle.isa.specs.declared.Instr.TheVariants.{Jal}
 use Rattle.isa.specs.declared.Effect.{Effect}
 use Rattle.isa.specs.declared.Effect.TheVariants.{SetRegister, Jump, Branch, Load, Store, MoveOn, EnvironmentCall, Breakpoint}
-use Rattle.isa.specs.Machine.{State, Outcome, Retired, Called, Trapped, wrap, effect_of, execute, landed, is_aligned, jumped, branched, loaded, stored, low_bytes, in_window, call_of, Fetch, Fetched, OutsideWindow, Illegal, fetch, outcome_of, next}
+use Rattle.isa.specs.Machine.{State, Outcome, Retired, Called, Trapped, wrap, effect_of, execute, landed, is_aligned, jumped, branched, loaded, stored, low_bytes, in_window, call_of, Fetch, Fetched, fetch, outcome_of, next}
 use Rattle.isa.specs.Calls.{buffer_of}
 use Rattle.isa.proofs.Window.{length-overwritten, holds_by, wrap-lt}
 use Rattle.log_model.specs.declared.CallRecord.{CallRecord}
-use Rattle.log_model.specs.declared.CallRecord.TheVariants.{Read, Write, Clock, Other}
+use Rattle.log_model.specs.declared.CallRecord.TheVariants.{Read, Other}
 use Rattle.log_model.specs.Logs.{IsRecord, IsTrapKind}
 use Rattle.replay_model.specs.Run.{state_after}
 use Rattle.replay_model.specs.Comparison.{IsLawful}
@@ -43,14 +43,7 @@ rounded n = omega arith
 
 has_target : (s : State) (i : Instr) → HasTarget (effect_of s i)
 has_target s (Jal d imm) = wrap-lt _
-has_target s (Jalr d a imm) = rounded _
-has_target s (Beq a b imm) = wrap-lt _
-has_target s (Bne a b imm) = wrap-lt _
-has_target s (Blt a b imm) = wrap-lt _
-has_target s (Bge a b imm) = wrap-lt _
-has_target s (Bltu a b imm) = wrap-lt _
-has_target s (Bgeu a b imm) = wrap-lt _
-has_target s other = tt
+has_target s other = search (wrap-lt, rounded)
 
 module _ (s : State) where
   fine_landed : (b : Bool) (t : State) → t.pc < 2 ^ 32 → length t.memory ≡ length s.memory → IsFine s (landed b t)
@@ -85,9 +78,8 @@ module _ (s : State) where
   fine_executed Breakpoint h = inl (omega arith)
 
   fine_fetched : (f : Fetch) → IsFine s (outcome_of s f)
-  fine_fetched OutsideWindow = inl (omega arith)
-  fine_fetched Illegal = inl (omega arith)
   fine_fetched (Fetched i) = fine_executed (effect_of s i) (has_target s i)
+  fine_fetched f = inl (omega arith)
 
   pub is_fine : (o : Outcome) → next s ≡ o → IsFine s o
   is_fine o e = subst (IsFine s) e (fine_fetched (fetch s))
@@ -110,13 +102,9 @@ pub reached_call : (s : State) (inputs : ℕ) (r : CallRecord) → IsRecord r �
 reached_call s inputs r form lawful h = record { sound = call_sound s inputs r h.sound form lawful; pc = pc r; size = size r form lawful }
   where
     pc : (r : CallRecord) → (state_after s r).pc < 2 ^ 32
-    pc (Read at args result bytes) = wrap-lt (s.pc + 4)
-    pc (Write at args result bytes) = wrap-lt (s.pc + 4)
-    pc (Clock at value) = wrap-lt (s.pc + 4)
     pc (Other at number) = wrap-lt (s.pc + 4)
+    pc r = wrap-lt (s.pc + 4)
 
     size : (r : CallRecord) → IsRecord r → IsLawful s inputs r → length (state_after s r).memory ≤ 2 ^ 24
     size (Read at args result bytes) form lawful = let same = length-room s (buffer_of args) bytes (read_room s inputs at args result bytes form lawful) in let few = h.size in omega arith
-    size (Write at args result bytes) form lawful = h.size
-    size (Clock at value) form lawful = h.size
-    size (Other at number) form lawful = h.size
+    size r form lawful = h.size

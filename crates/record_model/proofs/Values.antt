@@ -174,32 +174,8 @@ mapped (Some make) w i h e = let same : make w ≡ i = cc in subst InRange same 
 looked : (table : List (ℕ × (ℕ → Instr))) → AllByRecursion (λ row. MakesInRange row.1) table → (k w : ℕ) (i : Instr) → looked_up table k w ≡ Some i → InRange i
 looked table h k w i e = mapped (entry table k) w i (λ make f. entry_all MakesInRange table k make h f) e
 
-branches_range : AllByRecursion (λ row. MakesInRange row.1) branches
-branches_range = (λ w. record { register = omega arith; word = omega arith }, (λ w. record { register = omega arith; word = omega arith }, (λ w. record { register = omega arith; word = omega arith }, (λ w. record { register = omega arith; word = omega arith }, (λ w. record { register = omega arith; word = omega arith }, (λ w. record { register = omega arith; word = omega arith }, tt))))))
-
-loads_range : AllByRecursion (λ row. MakesInRange row.1) loads
-loads_range = (λ w. record { register = rd_small w; word = omega arith }, (λ w. record { register = rd_small w; word = omega arith }, (λ w. record { register = rd_small w; word = omega arith }, (λ w. record { register = rd_small w; word = omega arith }, (λ w. record { register = rd_small w; word = omega arith }, tt)))))
-
-stores_range : AllByRecursion (λ row. MakesInRange row.1) stores
-stores_range = (λ w. record { register = omega arith; word = omega arith }, (λ w. record { register = omega arith; word = omega arith }, (λ w. record { register = omega arith; word = omega arith }, tt)))
-
-immediates_range : AllByRecursion (λ row. MakesInRange row.1) immediates
-immediates_range = (λ w. record { register = rd_small w; word = omega arith }, (λ w. record { register = rd_small w; word = omega arith }, (λ w. record { register = rd_small w; word = omega arith }, (λ w. record { register = rd_small w; word = small_imm w }, (λ w. record { register = rd_small w; word = small_imm w }, (λ w. record { register = rd_small w; word = omega arith }, tt))))))
-
-shifts_range : AllByRecursion (λ row. MakesInRange row.1) shifts
-shifts_range = (λ w. record { register = rd_small w; word = omega arith }, (λ w. record { register = rd_small w; word = omega arith }, (λ w. record { register = rd_small w; word = omega arith }, tt)))
-
-operations_range : AllByRecursion (λ row. MakesInRange row.1) operations
-operations_range = (λ w. record { register = rd_small w; word = omega arith }, (λ w. record { register = rd_small w; word = omega arith }, (λ w. record { register = rd_small w; word = omega arith }, (λ w. record { register = rd_small w; word = omega arith }, (λ w. record { register = rd_small w; word = omega arith }, (λ w. record { register = rd_small w; word = omega arith }, (λ w. record { register = rd_small w; word = omega arith }, (λ w. record { register = rd_small w; word = omega arith }, (λ w. record { register = rd_small w; word = omega arith }, (λ w. record { register = rd_small w; word = omega arith }, (λ w. record { register = rd_small w; word = omega arith }, (λ w. record { register = rd_small w; word = omega arith }, (λ w. record { register = rd_small w; word = omega arith }, (λ w. record { register = rd_small w; word = omega arith }, (λ w. record { register = rd_small w; word = omega arith }, (λ w. record { register = rd_small w; word = omega arith }, (λ w. record { register = rd_small w; word = omega arith }, (λ w. record { register = rd_small w; word = omega arith }, tt))))))))))))))))))
-
-jumps_range : AllByRecursion (λ row. MakesInRange row.1) jumps
-jumps_range = (λ w. record { register = rd_small w; word = omega arith }, tt)
-
-fences_range : AllByRecursion (λ row. MakesInRange row.1) fences
-fences_range = (λ w. record { register = omega arith; word = omega arith }, tt)
-
-systems_range : AllByRecursion (λ row. MakesInRange row.1) systems
-systems_range = (λ w. record { register = omega arith; word = omega arith }, (λ w. record { register = omega arith; word = omega arith }, tt))
+-- the registers and immediates of a row
+ruleset ranges = (rd_small, small_imm, upper_imm, arith)
 
 abbrev RowInRange : (ℕ → Option Instr) → Type 0
 RowInRange row = (w : ℕ) (i : Instr) → row w ≡ Some i → InRange i
@@ -208,34 +184,37 @@ immediate_range : RowInRange immediate
 immediate_range w i e = by (funct3 w % 4 == 1) e
   where
     by : (b : Bool) → (if b then looked_up shifts (funct7_funct3 w) w else looked_up immediates (funct3 w) w) ≡ Some i → InRange i
-    by true e = looked shifts shifts_range (funct7_funct3 w) w i e
-    by false e = looked immediates immediates_range (funct3 w) w i e
+    by true e = looked shifts (search ranges parts 40) (funct7_funct3 w) w i e
+    by false e = looked immediates (search ranges parts 40) (funct3 w) w i e
 
 one_row : (make : ℕ → Instr) → MakesInRange make → RowInRange (λ w. Some (make w))
 one_row make h w i e = let same : make w ≡ i = cc in subst InRange same (h w)
 
 opcodes_range : AllByRecursion (λ row. RowInRange row.1) opcodes
 opcodes_range = (
-  one_row (λ w. Lui (rd w) (imm_u w)) (λ w. record { register = rd_small w; word = upper_imm w }),
+  one_row (λ w. Lui (rd w) (imm_u w)) (search ranges),
   (
-    one_row (λ w. Auipc (rd w) (imm_u w)) (λ w. record { register = rd_small w; word = omega arith }),
+    one_row (λ w. Auipc (rd w) (imm_u w)) (search ranges),
     (
-      one_row (λ w. Jal (rd w) (imm_j w)) (λ w. record { register = rd_small w; word = omega arith }),
+      one_row (λ w. Jal (rd w) (imm_j w)) (search ranges),
       (
-        λ w i e. looked jumps jumps_range (funct3 w) w i e,
+        λ w. looked jumps (search ranges parts 40) (funct3 w) w,
         (
-          λ w i e. looked branches branches_range (funct3 w) w i e,
+          λ w. looked branches (search ranges parts 40) (funct3 w) w,
           (
-            λ w i e. looked loads loads_range (funct3 w) w i e,
+            λ w. looked loads (search ranges parts 40) (funct3 w) w,
             (
-              λ w i e. looked stores stores_range (funct3 w) w i e,
+              λ w. looked stores (search ranges parts 40) (funct3 w) w,
               (
                 immediate_range,
                 (
-                  λ w i e. looked operations operations_range (funct7_funct3 w) w i e,
+                  λ w. looked operations (search ranges parts 40) (funct7_funct3 w) w,
                   (
-                    λ w i e. looked fences fences_range (funct3 w) w i e,
-                    (λ w i e. looked systems systems_range w w i e, tt),
+                    λ w. looked fences (search ranges parts 40) (funct3 w) w,
+                    (
+                      λ w. looked systems (search ranges parts 40) w w,
+                      tt,
+                    ),
                   ),
                 ),
               ),

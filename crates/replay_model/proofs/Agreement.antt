@@ -1,6 +1,7 @@
 -- What follows for a moment where nothing differs. Crates above cite these lemmas.
 use Rattle.std.proofs.Common.{◌≡◌, ℕ, zero, suc, ◌+◌, ◌<◌, ◌≤◌, Bool, true, false, List, [], ◌∷◌, ◌++◌, pos, Option, Some, None, refl, arith, ap, sym, ◌∙◌}
 use Rattle.std.specs.Prelude.{◌==◌, if◌then◌else◌}
+use Rattle.std.specs.List.{AllByRecursion}
 use Rattle.std.specs.Ordering.{int_eq}
 use Rattle.std.proofs.lemmas.Bool.{lt-ltb, le-ltb}
 use Rattle.std.proofs.lemmas.Bool.Decides.{Decides-int_eq, not_from_Decides}
@@ -38,6 +39,19 @@ pub rest_agrees : (cs ds : List Compared) → first_different (cs ++ ds) ≡ Non
 rest_agrees [] ds e = e
 rest_agrees (c ∷ cs) ds e = rest_agrees cs ds (first_agrees c (cs ++ ds) e).1
 
+-- two fields are the same
+abbrev pub IsSame : Compared → Type 0
+IsSame c = c.kept ≡ c.seen
+
+-- nothing differs exactly where each field is the same
+pub all_agree : (cs : List Compared) → first_different cs ≡ None → AllByRecursion IsSame cs
+all_agree [] e = tt
+all_agree (c ∷ cs) e = let both = first_agrees c cs e in (both.0, all_agree cs both.1)
+
+pub none_differs : (cs : List Compared) → AllByRecursion IsSame cs → first_different cs ≡ None
+none_differs [] h = refl
+none_differs (c ∷ cs) h = first_different-same c cs h.0 ∙ none_differs cs h.1
+
 pub differs : (cs : List Compared) (d : Compared) → first_different cs ≡ Some d → d.kept ≡ d.seen → ⊥
 differs [] d e h = cc
 differs (c ∷ cs) d e h = by (differs cs d) (int_eq c.kept c.seen) refl e
@@ -57,17 +71,11 @@ event_kind n = if n == 1 then kind.Read else if n == 2 then kind.Write else if n
 kind_again : (k : CallKind) → event_kind (call_event k) ≡ k
 unfolding event_kind
 kind_again kind.Read = refl
-kind_again kind.Write = refl
-kind_again kind.Clock = refl
-kind_again kind.Other = refl
-kind_again kind.Exit = refl
+kind_again k = refl
 
 pub call_event_range : (k : CallKind) → (0 < call_event k) × (call_event k < 6)
 call_event_range kind.Read = (omega arith, omega arith)
-call_event_range kind.Write = (omega arith, omega arith)
-call_event_range kind.Clock = (omega arith, omega arith)
-call_event_range kind.Other = (omega arith, omega arith)
-call_event_range kind.Exit = (omega arith, omega arith)
+call_event_range k = (omega arith, omega arith)
 
 -- a code is of one kind of call
 pub same_kind : (j k : CallKind) → call_event j ≡ call_event k → j ≡ k
@@ -123,9 +131,7 @@ kind_by (Other at number) = kind.Other
 -- a record is expected as a call of its kind
 pub event_by : (r : CallRecord) → call_event (kind_by r) ≡ kept_event (CallOf r)
 event_by (Read at args result bytes) = refl
-event_by (Write at args result bytes) = refl
-event_by (Clock at value) = refl
-event_by (Other at number) = refl
+event_by r = refl
 
 pub record CallAgrees (m : Moment) (inputs : ℕ) (r : CallRecord) : Type 0 where
   pub call : Call
@@ -159,18 +165,15 @@ agrees_at log (suc n) (suc k) m d h =
     agrees_at log n k (advance m) (none_first m.time (difference log m) (divergence_from log n (advance m)) d).1 (omega arith)
 
 -- all that is compared at a moment
-abbrev compares : Moment → ℕ → Expected → List Compared
+abbrev pub compares : Moment → ℕ → Expected → List Compared
 compares m inputs e = compared field.Event (kept_event e) (seen_event (next m.state)) ∷ fields m.state inputs e
 
 pub later_agrees : (log : Log) (n : ℕ) (m : Moment) → divergence_from log (suc n) m ≡ None → divergence_from log n (advance m) ≡ None
 later_agrees log n m d = (none_first m.time (difference log m) (divergence_from log n (advance m)) d).1
 
 difference_differs : (m : Moment) (inputs : ℕ) (e : Expected) (c : Compared) → difference_at m inputs e ≡ Some c → c.kept ≡ c.seen → ⊥
-difference_differs m inputs PlainStep c e h = differs (compares m inputs PlainStep) c e h
-difference_differs m inputs (CallOf r) c e h = differs (compares m inputs (CallOf r)) c e h
-difference_differs m inputs (EndOf (Exit at code)) c e h = differs (compares m inputs (EndOf (Exit at code))) c e h
-difference_differs m inputs (EndOf (Trap at kind pc)) c e h = differs (compares m inputs (EndOf (Trap at kind pc))) c e h
 difference_differs m inputs (EndOf (Limit at)) c e h = cc
+difference_differs m inputs kept c e h = differs (compares m inputs kept) c e h
 
 or_later_differs : (log : Log) (m : Moment) (o : Option Compared) (later : Option Divergence) (d : Divergence) → difference log m ≡ o → or_later m.time o later ≡ Some d → (later ≡ Some d → d.kept ≡ d.seen → ⊥) → d.kept ≡ d.seen → ⊥
 or_later_differs log m None later d o e ih h = ih e h

@@ -1,24 +1,24 @@
 -- The offsets of a trace's calls count the bytes that the run moves. Crates above cite these lemmas.
 use Rattle.std.proofs.Common.{◌≡◌, ℕ, zero, suc, ◌+◌, ◌<◌, ◌≤◌, Bool, List, [], ◌∷◌, ◌++◌, length, Some, None, refl, arith, ap, sym, ◌∙◌, subst}
-use Rattle.std.specs.Prelude.{if◌then◌else◌}
+use Rattle.std.specs.Prelude.{◌==◌, if◌then◌else◌}
 use Rattle.std.proofs.lemmas.Bool.{eq-eqb, ne_eqb}
 use Rattle.isa.specs.declared.CallKind.{CallKind}
 use Rattle.isa.specs.declared.CallKind.TheVariants as kind
-use Rattle.isa.specs.Machine.{State, Outcome, Retired, Called, Trapped, next, Fetch, Fetched, OutsideWindow, Illegal, fetch}
+use Rattle.isa.specs.Machine.{State, Outcome, Retired, Called, Trapped, next, Fetch, Fetched, fetch}
 use Rattle.isa.specs.Calls.{channel_of}
 use Rattle.log_model.specs.declared.CallRecord.{CallRecord}
-use Rattle.log_model.specs.declared.CallRecord.TheVariants.{Read, Write, Clock, Other}
+use Rattle.log_model.specs.declared.CallRecord.TheVariants.{Read, Write}
 use Rattle.log_model.specs.declared.RunEnd.{RunEnd}
-use Rattle.log_model.specs.declared.RunEnd.TheVariants.{Exit, Trap, Limit}
+use Rattle.log_model.specs.declared.RunEnd.TheVariants.{Exit}
 use Rattle.log_model.specs.Logs.{Log, IsLog, end_at, steps, steps_by}
-use Rattle.log_model.specs.Moved.{received, written, written_by}
+use Rattle.log_model.specs.Moved.{received, written}
 use Rattle.flow_model.specs.declared.StepSeen.{StepSeen}
 use Rattle.flow_model.specs.declared.CallSeen.{CallSeen}
 use Rattle.flow_model.specs.Origins.{step_at}
 use Rattle.replay_model.specs.Run.{Moment, start, advance, after_outcome, after_call, moment_after, transfer, call_seen, plain_step, step_by, step_of, steps_from, trace}
 use Rattle.replay_model.specs.Comparison.{divergence}
 use Rattle.replay_model.specs.Offsets.{call_at, records_before, OffsetsCount, AreWritesApart}
-use Rattle.log_model.proofs.Moved.{length-written-push}
+use Rattle.log_model.proofs.Moved.{length-received-push, length-written-push}
 use Rattle.replay_model.proofs.Track.{done_is, on_track_at}
 
 -- ---- the steps of a trace, by their times
@@ -43,8 +43,7 @@ length-steps_from (suc n) m = ap suc (length-steps_from n (advance m))
 
 pub steps_within : (end : RunEnd) → steps_by end ≤ end_at end + 1
 steps_within (Exit at code) = omega arith
-steps_within (Trap at kind pc) = omega arith
-steps_within (Limit at) = omega arith
+steps_within end = omega arith
 
 -- ---- a call that moves bytes has as its offset how many were moved before
 
@@ -53,50 +52,50 @@ transfer_offset k args before n h = ap (λ (b : Bool). if b then 0 else length b
 
 pub no_call : (t : ℕ) (s : State) (f : Fetch) → (plain_step t s f).call ≡ None
 no_call t s (Fetched i) = refl
-no_call t s OutsideWindow = refl
-no_call t s Illegal = refl
+no_call t s f = refl
 
-read_offset_by : (m : Moment) (left : List CallRecord) (call : CallSeen) → call_seen m left ≡ call → call.kind ≡ kind.Read → 0 < call.length → call.offset ≡ length (received call.channel m.done)
-read_offset_by m [] call e k h = let other : kind.Exit ≡ kind.Read = ap (λ (x : CallSeen). x.kind) e ∙ k in cc
-read_offset_by m (Read at args result bytes ∷ rs) call e k h =
-    subst (λ (x : CallSeen). 0 < x.length → x.offset ≡ length (received x.channel m.done)) e (transfer_offset kind.Read args (received (channel_of args) m.done) (length bytes)) h
-read_offset_by m (Write at args result bytes ∷ rs) call e k h = let other : kind.Write ≡ kind.Read = ap (λ (x : CallSeen). x.kind) e ∙ k in cc
-read_offset_by m (Clock at value ∷ rs) call e k h = let other : kind.Clock ≡ kind.Read = ap (λ (x : CallSeen). x.kind) e ∙ k in cc
-read_offset_by m (Other at number ∷ rs) call e k h = let other : kind.Other ≡ kind.Read = ap (λ (x : CallSeen). x.kind) e ∙ k in cc
+-- a call's bytes come after those moved before, and those moved after it come after them
+pub record IsMoved (moved : ℕ → List CallRecord → List ℕ) (call : CallSeen) (before after : List CallRecord) : Type 0 where
+  pub offset_is : call.offset ≡ length (moved call.channel before)
+  pub after_is : length (moved call.channel after) ≡ call.offset + call.length
 
--- a write's bytes come after those written before, and those written after it come after them
-record IsWritten (channel length_of_bytes offset : ℕ) (before after : List CallRecord) : Type 0 where
-  offset_is : offset ≡ length (written channel before)
-  after_is : length (written channel after) ≡ offset + length_of_bytes
-
-write_by : (m : Moment) (left : List CallRecord) (call : CallSeen) → call_seen m left ≡ call → call.kind ≡ kind.Write → 0 < call.length → IsWritten call.channel call.length call.offset m.done (after_call m left).done
-write_by m [] call e k h = let other : kind.Exit ≡ kind.Write = ap (λ (x : CallSeen). x.kind) e ∙ k in cc
-write_by m (Write at args result bytes ∷ rs) call e k h = subst (λ (x : CallSeen). 0 < x.length → IsWritten x.channel x.length x.offset m.done (m.done ++ Write at args result bytes ∷ [])) e here h
+transferred : (moved : ℕ → List CallRecord → List ℕ) (k : CallKind) (args bytes : List ℕ) (before after : List CallRecord) (call : CallSeen)
+    → transfer k args (moved (channel_of args) before) (length bytes) ≡ call → length (moved (channel_of args) after) ≡ length (moved (channel_of args) before) + length bytes
+    → 0 < call.length → IsMoved moved call before after
+transferred moved k args bytes before after call e more h = subst (λ (x : CallSeen). 0 < x.length → IsMoved moved x before after) e here h
   where
-    channel : ℕ
-    channel = channel_of args
+    here : 0 < length bytes → IsMoved moved (transfer k args (moved (channel_of args) before) (length bytes)) before after
+    here some = let first = transfer_offset k args (moved (channel_of args) before) (length bytes) some in record { offset_is = first; after_is = omega arith }
 
-    here : 0 < length bytes → IsWritten channel (length bytes) (transfer kind.Write args (written channel m.done) (length bytes)).offset m.done (m.done ++ Write at args result bytes ∷ [])
-    here some =
-        let offset = transfer_offset kind.Write args (written channel m.done) (length bytes) some in
-        let own : written_by channel (Write at args result bytes) ≡ bytes = ap (λ (b : Bool). if b then bytes else []) (eq-eqb channel channel refl) in
-        record { offset_is = offset; after_is = omega (arith, length-written-push channel m.done (Write at args result bytes), ap length own) }
-write_by m (Read at args result bytes ∷ rs) call e k h = let other : kind.Read ≡ kind.Write = ap (λ (x : CallSeen). x.kind) e ∙ k in cc
-write_by m (Clock at value ∷ rs) call e k h = let other : kind.Clock ≡ kind.Write = ap (λ (x : CallSeen). x.kind) e ∙ k in cc
-write_by m (Other at number ∷ rs) call e k h = let other : kind.Other ≡ kind.Write = ap (λ (x : CallSeen). x.kind) e ∙ k in cc
+own_bytes : (channel : ℕ) (bytes : List ℕ) → length (if channel == channel then bytes else []) ≡ length bytes
+own_bytes channel bytes = ap (λ (b : Bool). length (if b then bytes else [])) (eq-eqb channel channel refl)
+
+read_by : (m : Moment) (left : List CallRecord) (call : CallSeen) → call_seen m left ≡ call → call.kind ≡ kind.Read → 0 < call.length → IsMoved received call m.done (after_call m left).done
+read_by m (Read at args result bytes ∷ rs) call e k h =
+    let r = Read at args result bytes in
+    transferred received kind.Read args bytes m.done (m.done ++ r ∷ []) call e (omega (arith, length-received-push (channel_of args) m.done r, own_bytes (channel_of args) bytes)) h
+read_by m left call e k h = let other = ap (λ (x : CallSeen). x.kind) e ∙ k in cc
+
+write_by : (m : Moment) (left : List CallRecord) (call : CallSeen) → call_seen m left ≡ call → call.kind ≡ kind.Write → 0 < call.length → IsMoved written call m.done (after_call m left).done
+write_by m (Write at args result bytes ∷ rs) call e k h =
+    let r = Write at args result bytes in
+    transferred written kind.Write args bytes m.done (m.done ++ r ∷ []) call e (omega (arith, length-written-push (channel_of args) m.done r, own_bytes (channel_of args) bytes)) h
+write_by m left call e k h = let other = ap (λ (x : CallSeen). x.kind) e ∙ k in cc
 
 pub call_of_plain : {P : Type 0} (m : Moment) (call : CallSeen) → (plain_step m.time m.state (fetch m.state)).call ≡ Some call → P
 call_of_plain m call e = let none = no_call m.time m.state (fetch m.state) in cc
 
-read_offset : (m : Moment) (o : Outcome) (call : CallSeen) → (step_by m o).call ≡ Some call → call.kind ≡ kind.Read → 0 < call.length → call.offset ≡ length (received call.channel m.done)
-read_offset m (Retired s) call e k h = call_of_plain m call e
-read_offset m (Called c) call e k h = let seen : call_seen m m.left ≡ call = cc in read_offset_by m m.left call seen k h
-read_offset m (Trapped t) call e k h = cc
+-- a step that has a call is one
+pub called_by : (m : Moment) (o : Outcome) (call : CallSeen) (P : Moment → Type 0) → (step_by m o).call ≡ Some call → (call_seen m m.left ≡ call → P (after_call m m.left)) → P (after_outcome m o)
+called_by m (Retired s) call P e h = call_of_plain m call e
+called_by m (Called c) call P e h = h (cc)
+called_by m (Trapped t) call P e h = cc
 
-write_here : (m : Moment) (o : Outcome) (call : CallSeen) → (step_by m o).call ≡ Some call → call.kind ≡ kind.Write → 0 < call.length → IsWritten call.channel call.length call.offset m.done (after_outcome m o).done
-write_here m (Retired s) call e k h = call_of_plain m call e
-write_here m (Called c) call e k h = let seen : call_seen m m.left ≡ call = cc in write_by m m.left call seen k h
-write_here m (Trapped t) call e k h = cc
+pub read_here : (m : Moment) (o : Outcome) (call : CallSeen) → (step_by m o).call ≡ Some call → call.kind ≡ kind.Read → 0 < call.length → IsMoved received call m.done (after_outcome m o).done
+read_here m o call e k h = called_by m o call (λ x. IsMoved received call m.done x.done) e (λ seen. read_by m m.left call seen k h)
+
+write_here : (m : Moment) (o : Outcome) (call : CallSeen) → (step_by m o).call ≡ Some call → call.kind ≡ kind.Write → 0 < call.length → IsMoved written call m.done (after_outcome m o).done
+write_here m o call e k h = called_by m o call (λ x. IsMoved written call m.done x.done) e (λ seen. write_by m m.left call seen k h)
 
 -- ---- along the trace
 
@@ -118,7 +117,7 @@ offsets_count s log form d =
     record {
       reads = λ k call e i h.
           let m = moment_after k (start s log) in
-          read_offset m (next m.state) call (at_moment (steps log) k (start s log) call e) i h ∙ ap (λ (rs : List CallRecord). length (received call.channel rs)) (before k call e);
+          (read_here m (next m.state) call (at_moment (steps log) k (start s log) call e) i h).offset_is ∙ ap (λ (rs : List CallRecord). length (received call.channel rs)) (before k call e);
       writes = λ k call e i h.
           let m = moment_after k (start s log) in
           (write_here m (next m.state) call (at_moment (steps log) k (start s log) call e) i h).offset_is ∙ ap (λ (rs : List CallRecord). length (written call.channel rs)) (before k call e);

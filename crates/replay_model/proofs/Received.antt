@@ -1,21 +1,20 @@
 -- The source bytes that a trace reads are those that the log's records received, and they are of its channels. Crates
 -- above cite these lemmas.
-use Rattle.std.proofs.Common.{◌≡◌, ℕ, zero, suc, ◌+◌, ◌^◌, ◌<◌, ◌≤◌, ◌⊎◌, inl, inr, Bool, true, false, List, [], ◌∷◌, ◌++◌, length, Some, None, refl, arith, ap, sym, ◌∙◌, subst, add-one, zero-add, append-nil, append_assoc}
+use Rattle.std.proofs.Common.{◌≡◌, ℕ, zero, suc, ◌+◌, ◌^◌, ◌<◌, ◌≤◌, ◌⊎◌, inl, inr, Bool, true, false, List, [], ◌∷◌, ◌++◌, length, None, refl, arith, ap, sym, ◌∙◌, subst, add-one, zero-add, append-nil, append_assoc}
 use Rattle.std.specs.Prelude.{if◌then◌else◌, ◌==◌}
-use Rattle.std.proofs.lemmas.Bool.{cases_lt, eqb-true, eq-eqb}
+use Rattle.std.proofs.lemmas.Bool.{cases_lt, eqb-true}
 use Rattle.std.proofs.lemmas.List.{nil_from_length}
 use Rattle.isa.specs.declared.CallKind.TheVariants as kind
-use Rattle.isa.specs.Machine.{State, Outcome, Retired, Called, Trapped, next}
+use Rattle.isa.specs.Machine.{State, Outcome, next}
 use Rattle.isa.specs.Calls.{channel_of}
 use Rattle.log_model.specs.declared.Version.TheVariants.{Two}
 use Rattle.log_model.specs.declared.CallRecord.{CallRecord}
-use Rattle.log_model.specs.declared.CallRecord.TheVariants.{Read, Write, Clock, Other}
+use Rattle.log_model.specs.declared.CallRecord.TheVariants.{Read, Write}
 use Rattle.log_model.specs.Logs.{Log, IsLog, IsRecord, CanHold, log_text, at_of, end_at, steps}
 use Rattle.log_model.specs.Moved.{received, received_by}
 use Rattle.log_model.proofs.Moved.{length-received-push, length-received-append}
 use Rattle.flow_model.specs.declared.StepSeen.{StepSeen}
-use Rattle.flow_model.specs.declared.CallSeen.{CallSeen}
-use Rattle.replay_model.specs.Run.{Moment, start, advance, moment_after, transfer, call_seen, step_by, step_of, steps_from, trace}
+use Rattle.replay_model.specs.Run.{Moment, start, advance, after_call, moment_after, transfer, step_by, step_of, steps_from, trace}
 use Rattle.replay_model.specs.Comparison.{PlainStep, CallOf, difference, divergence_from, divergence}
 use Rattle.replay_model.specs.Received.{ReadsByteAt, ReadsAreReceived}
 use Rattle.replay_model.proofs.Agreement.{expects_plain_before, expects_call, plain_agrees, CallAgrees, call_agrees, agrees_at, later_agrees}
@@ -23,7 +22,7 @@ use Rattle.replay_model.proofs.Track.{moment, IsOnTrack, agrees_with, least_rise
 use Rattle.replay_model.proofs.Transfers.{read_held}
 use Rattle.log_model.proofs.Texts.{can_hold}
 use Rattle.log_model.proofs.Ends.{end_at-le-steps_by}
-use Rattle.replay_model.proofs.Offsets.{at_moment, in_trace, length-steps_from, steps_within, transfer_offset, call_of_plain}
+use Rattle.replay_model.proofs.Offsets.{at_moment, in_trace, length-steps_from, steps_within, transfer_offset, called_by, read_here}
 
 -- ---- a byte that was received is read by a step
 
@@ -42,9 +41,9 @@ read_if : (b : Bool) (bytes : List ℕ) → 0 < length (if b then bytes else [])
 read_if true bytes some = (refl, refl)
 read_if false bytes some = absurd (omega arith)
 
-nothing_if : (b : Bool) (none : List ℕ) → none ≡ [] → 0 < length (if b then none else none) → ⊥
-nothing_if true none e some = omega (arith, ap length e)
-nothing_if false none e some = omega (arith, ap length e)
+nothing_if : (b : Bool) (xs : List ℕ) → (if b then xs else xs) ≡ xs
+nothing_if true xs = refl
+nothing_if false xs = refl
 
 module _ (log : Log) (channel offset : ℕ) (below : offset < length (received channel log.records)) where
   -- the call that is made now reads it
@@ -72,11 +71,8 @@ module _ (log : Log) (channel offset : ℕ) (below : offset < length (received c
         below = subst (λ (c : ℕ). c < log.inputs) on (read_held s log.inputs at args result bytes form agreed.lawful some).channel;
       }
   found_here q t s done (Write at args result bytes) rs form agreed from to =
-      absurd (nothing_if (channel_of args == channel) [] refl (omega (arith, length-received-push channel done (Write at args result bytes))))
-  found_here q t s done (Clock at value) rs form agreed from to =
-      absurd (omega (arith, length-received-push channel done (Clock at value)))
-  found_here q t s done (Other at number) rs form agreed from to =
-      absurd (omega (arith, length-received-push channel done (Other at number)))
+      absurd (omega (arith, length-received-push channel done (Write at args result bytes), ap length (nothing_if (channel_of args == channel) [])))
+  found_here q t s done r rs form agreed from to = absurd (omega (arith, length-received-push channel done r))
 
   -- one of the next q steps reads it, where it isn't received yet n steps before the end
   abbrev Finds : ℕ → ℕ → Type 0
@@ -129,31 +125,10 @@ found_in_trace s log form d channel offset below =
 
 -- ---- a byte that a step reads was received
 
-read_within : (m : Moment) (left records : List CallRecord) (call : CallSeen) → m.done ++ left ≡ records → call_seen m left ≡ call → call.kind ≡ kind.Read → 0 < call.length → call.offset + call.length ≤ length (received call.channel records)
-read_within m [] records call all e k h = let other : kind.Exit ≡ kind.Read = ap (λ (x : CallSeen). x.kind) e ∙ k in cc
-read_within m (Read at args result bytes ∷ rs) records call all e k h =
-    subst (λ (x : CallSeen). 0 < x.length → x.offset + x.length ≤ length (received x.channel records)) e here h
-  where
-    r : CallRecord
-    r = Read at args result bytes
-
-    channel : ℕ
-    channel = channel_of args
-
-    here : 0 < length bytes → (transfer kind.Read args (received channel m.done) (length bytes)).offset + length bytes ≤ length (received channel records)
-    here some =
-        let first = transfer_offset kind.Read args (received channel m.done) (length bytes) some in
-        let own : received_by channel r ≡ bytes = ap (λ (b : Bool). if b then bytes else []) (eq-eqb channel channel refl) in
-        let parts : (m.done ++ r ∷ []) ++ rs ≡ records = append_assoc m.done (r ∷ []) rs ∙ all in
-        omega (arith, first, ap length own, length-received-push channel m.done r, length-received-append channel (m.done ++ r ∷ []) rs, ap (λ (x : List CallRecord). length (received channel x)) parts)
-read_within m (Write at args result bytes ∷ rs) records call all e k h = let other : kind.Write ≡ kind.Read = ap (λ (x : CallSeen). x.kind) e ∙ k in cc
-read_within m (Clock at value ∷ rs) records call all e k h = let other : kind.Clock ≡ kind.Read = ap (λ (x : CallSeen). x.kind) e ∙ k in cc
-read_within m (Other at number ∷ rs) records call all e k h = let other : kind.Other ≡ kind.Read = ap (λ (x : CallSeen). x.kind) e ∙ k in cc
-
-read_of : (m : Moment) (o : Outcome) (records : List CallRecord) (call : CallSeen) → m.done ++ m.left ≡ records → (step_by m o).call ≡ Some call → call.kind ≡ kind.Read → 0 < call.length → call.offset + call.length ≤ length (received call.channel records)
-read_of m (Retired s) records call all e k h = call_of_plain m call e
-read_of m (Called c) records call all e k h = let seen : call_seen m m.left ≡ call = cc in read_within m m.left records call all seen k h
-read_of m (Trapped t) records call all e k h = cc
+part_of_all : (channel : ℕ) (m : Moment) (left records : List CallRecord) → m.done ++ left ≡ records → length (received channel (after_call m left).done) ≤ length (received channel records)
+part_of_all channel m [] records all = omega (arith, ap (λ (rs : List CallRecord). length (received channel rs)) (sym (append-nil m.done) ∙ all))
+part_of_all channel m (r ∷ rs) records all =
+    omega (arith, length-received-append channel (m.done ++ r ∷ []) rs, ap (λ (xs : List CallRecord). length (received channel xs)) (append_assoc m.done (r ∷ []) rs ∙ all))
 
 received_by_trace : (s : State) (log : Log) → IsLog log → divergence s log ≡ None → (channel offset k : ℕ) → ReadsByteAt (trace s log) channel offset k → offset < length (received channel log.records)
 received_by_trace s log form d channel offset k r =
@@ -164,7 +139,11 @@ received_by_trace s log form d channel offset k r =
     let on = on_track_at log s k form d (omega arith) in
     let from = r.from in
     let to = r.to in
-    let all = read_of m (next m.state) log.records r.call on.on.all (at_moment (steps log) k (start s log) r.call r.there) r.reads (omega arith) in
+    let there = at_moment (steps log) k (start s log) r.call r.there in
+    let moved = read_here m (next m.state) r.call there r.reads (omega arith) in
+    let after = moved.after_is in
+    let all = called_by m (next m.state) r.call (λ x. length (received r.call.channel x.done) ≤ length (received r.call.channel log.records)) there
+    (λ seen. part_of_all r.call.channel m m.left log.records on.on.all) in
     let same : length (received r.call.channel log.records) ≡ length (received channel log.records) = ap (λ (c : ℕ). length (received c log.records)) r.on in
     omega arith
 

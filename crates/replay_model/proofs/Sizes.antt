@@ -6,7 +6,7 @@ use Rattle.std.proofs.lemmas.Grind.{flat_map-append}
 use Rattle.std.proofs.lemmas.List.Concat.{flat_map-cons}
 use Rattle.log_model.specs.declared.Version.TheVariants.{Two}
 use Rattle.log_model.specs.declared.CallRecord.{CallRecord}
-use Rattle.log_model.specs.declared.CallRecord.TheVariants.{Read, Write, Clock, Other}
+use Rattle.log_model.specs.declared.CallRecord.TheVariants.{Read, Write}
 use Rattle.log_model.specs.Logs.{Log, IsRecord, channel_text, kept_channels, log_text, record_text, header_text, end_text, step_text, word32, signed32}
 use Rattle.log_model.proofs.Reading.{no_more_than_bytes}
 use Rattle.log_model.proofs.Texts.{data_below}
@@ -38,10 +38,8 @@ tail_fits : (front bytes : List ℕ) → length bytes ≤ length (front ++ bytes
 tail_fits front bytes = omega (arith, length-append front bytes)
 
 written_of_fits : (r : CallRecord) → length (written_of r) ≤ length (record_text Two r)
-written_of_fits (Read at args result bytes) = omega arith
 written_of_fits (Write at args result bytes) = tail_fits (2 ∷ step_text Two at ++ flat_map word32 args ++ signed32 result) bytes
-written_of_fits (Clock at value) = omega arith
-written_of_fits (Other at number) = omega arith
+written_of_fits r = omega arith
 
 if_fits : (b : Bool) (bytes : List ℕ) (n : ℕ) → length bytes ≤ n → length (if b then bytes else []) ≤ n
 if_fits true bytes n h = h
@@ -65,15 +63,11 @@ records_fit_text log = omega (arith, text_parts log, no_more_than_bytes Two log.
 
 pub received_of_below : (r : CallRecord) → IsRecord r → length (received_of r) < 2 ^ 31
 received_of_below (Read at args result bytes) is = data_below args result bytes is.1
-received_of_below (Write at args result bytes) is = omega arith
-received_of_below (Clock at value) is = omega arith
-received_of_below (Other at number) is = omega arith
+received_of_below r is = omega arith
 
 pub written_of_below : (r : CallRecord) → IsRecord r → length (written_of r) < 2 ^ 31
-written_of_below (Read at args result bytes) is = omega arith
 written_of_below (Write at args result bytes) is = data_below args result bytes is.1
-written_of_below (Clock at value) is = omega arith
-written_of_below (Other at number) is = omega arith
+written_of_below r is = omega arith
 
 pub moved_below_each : (f : CallRecord → List ℕ) → ((r : CallRecord) → IsRecord r → length (f r) < 2 ^ 31) → (rs : List CallRecord) → AllByRecursion IsRecord rs → length (flat_map f rs) ≤ length rs * 2 ^ 31
 moved_below_each f h [] forms = omega arith

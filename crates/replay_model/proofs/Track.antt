@@ -67,11 +67,6 @@ done_is log m on =
 pub advance_plain : (m : Moment) (s : State) → next m.state ≡ Retired s → advance m ≡ record m { time = m.time + 1; state = s }
 advance_plain m s e = ap (after_outcome m) e
 
-on_plain : (log : Log) (m : Moment) (s : State) → IsOnTrack log m → Rise (m.time + 1) m.left → least_after (m.time + 1) m.left ≤ end_at log.end → next m.state ≡ Retired s → IsOnTrack log (advance m)
-on_plain log m s on rise ends e =
-    let after : IsOnTrack log (record m { time = m.time + 1; state = s }) = record { all = on.all; past = past_later m.time m.done on.past; records = on.records; rise = rise; ends_after = ends } in
-    subst (IsOnTrack log) (sym (advance_plain m s e)) after
-
 -- a call that the record answers
 pub advance_call : (m : Moment) (call : Call) → next m.state ≡ Called call → advance m ≡ after_call m m.left
 advance_call m call e = ap (after_outcome m) e
@@ -115,7 +110,11 @@ step_time log m below d = time_by log m.time m.state m.done m.left below d
 -- ---- one step
 
 stays_plain : (log : Log) (m : Moment) → IsOnTrack log m → Rise (m.time + 1) m.left → least_after (m.time + 1) m.left ≤ end_at log.end → difference_at m log.inputs PlainStep ≡ None → IsOnTrack log (advance m)
-stays_plain log m on rise ends d = let plain = plain_agrees m log.inputs d in on_plain log m plain.0 on rise ends plain.1
+stays_plain log m on rise ends d =
+    let plain = plain_agrees m log.inputs d in
+    let after : IsOnTrack log (record m { time = m.time + 1; state = plain.0 }) =
+    record { all = on.all; past = past_later m.time m.done on.past; records = on.records; rise = rise; ends_after = ends } in
+    subst (IsOnTrack log) (sym (advance_plain m plain.0 plain.1)) after
 
 stays_call : (log : Log) (t : ℕ) (s : State) (done : List CallRecord) (r : CallRecord) (rs : List CallRecord) → at_of r ≡ t → IsOnTrack log (moment t s done (r ∷ rs)) → difference_at (moment t s done (r ∷ rs)) log.inputs (CallOf r) ≡ None → IsOnTrack log (advance (moment t s done (r ∷ rs)))
 stays_call log t s done r rs e on d =

@@ -3,7 +3,7 @@ pub mod PointRows
 pub mod Own
 pub mod Located
 pub mod Due
-mod Each
+pub mod Each
 mod Examples
 mod NeededExamples
 pub mod Members

@@ -11,10 +11,11 @@ use Rattle.flow_model.specs.Orders.{inner_cmp}
 use Rattle.flow_model.specs.Ranges.{IsLocation}
 use Rattle.lists.specs.Sets.{set_of}
 use Rattle.lists.proofs.Algebra.{All-set_of}
-use Rattle.lists.proofs.Lists.{all-append}
+use Rattle.lists.proofs.Lists.{all-weaken}
+use Rattle.report_model.proofs.Each.{all-flat}
 use Rattle.report_model.specs.declared.QueryKind.{QueryKind}
 use Rattle.report_model.specs.declared.QueryKind.TheVariants.{BadByte, Word, Count, Number, Range}
-use Rattle.report_model.specs.Query.{Query, AreLocated}
+use Rattle.report_model.specs.Query.{AreLocated}
 use Rattle.report_model.specs.Grammar.{Statement, RuleIs, Source, Sink, Points, says, byte_point, memory_unless, register_unless, is_at, is_number, is_time, value_of, count_or_word, memory_at, register_at, memory_of, register_of, rule_of, choice_of, sink_of, statement_of, is_comment, is_bad_byte, read_line, words, points_in, read_lines, lines, first_fault, query_of, unless}
 use Rattle.report_model.specs.PointLaws.{PointsOfTexts, PointsTogether}
 
@@ -36,24 +37,17 @@ in_memory : (place size word time : List ℕ) → AreRead (memory_at place size 
 in_memory place size word time = by (not (is_at word)) (not (is_number place && is_number size && is_time time)) (nat_lt (value_of size) 1) (nat_lt 65536 (value_of size)) (nat_lt 4294967296 (value_of place + value_of size)) refl where
   by : (b c d e f : Bool) → nat_lt 4294967296 (value_of place + value_of size) ≡ f
       → AreRead (memory_unless (first_true ((b, Word) ∷ (c, Number) ∷ (d || e || f, Range) ∷ [])) (value_of place) (value_of size) (value_of time))
-  by true c d e f h = tt
-  by false true d e f h = tt
-  by false false true e f h = tt
-  by false false false true f h = tt
-  by false false false false true h = tt
   by false false false false false h = let low = ltb-false 4294967296 (value_of place + value_of size) h in bytes (value_of place) (value_of time) 0 (value_of size) (omega (arith, low))
+  by b c d e f h = tt
 
 in_register : (register word time : List ℕ) → AreRead (register_at register word time)
 in_register register word time = by (not (is_at word)) (not (is_number register && is_time time)) (nat_lt (value_of register) 1) (nat_lt 31 (value_of register)) refl where
   by : (b c d f : Bool) → nat_lt 31 (value_of register) ≡ f → AreRead (register_unless (first_true ((b, Word) ∷ (c, Number) ∷ (d || f, Range) ∷ [])) (value_of register) (value_of time))
-  by true c d f h = tt
-  by false true d f h = tt
-  by false false true f h = tt
-  by false false false true h = tt
   by false false false false h =
       let low = ltb-false 31 (value_of register) h in
       let below : value_of register < 32 = omega (arith, low) in
       ((below, omega arith), ((below, omega arith), ((below, omega arith), ((below, omega arith), tt))))
+  by b c d f h = tt
 
 neither : (word : List ℕ) → AreRead (count_or_word word)
 neither word = by (is_at word) where
@@ -62,19 +56,14 @@ neither word = by (is_at word) where
   by false = tt
 
 of_memory : (more : List (List ℕ)) → AreRead (memory_of more)
-of_memory [] = tt
-of_memory (place ∷ []) = tt
-of_memory (place ∷ size ∷ []) = tt
-of_memory (place ∷ size ∷ word ∷ []) = neither word
 of_memory (place ∷ size ∷ word ∷ time ∷ []) = in_memory place size word time
-of_memory (place ∷ size ∷ word ∷ time ∷ next ∷ more) = neither word
+of_memory (place ∷ size ∷ word ∷ more) = neither word
+of_memory more = tt
 
 of_register : (more : List (List ℕ)) → AreRead (register_of more)
-of_register [] = tt
-of_register (register ∷ []) = tt
-of_register (register ∷ word ∷ []) = neither word
 of_register (register ∷ word ∷ time ∷ []) = in_register register word time
-of_register (register ∷ word ∷ time ∷ next ∷ more) = neither word
+of_register (register ∷ word ∷ more) = neither word
+of_register more = tt
 
 -- ---- lines
 
@@ -111,9 +100,8 @@ in_statement (keyword ∷ operands) = by (bytes_eq keyword (codes "rule")) (byte
 in_line : (line : List ℕ) → AreSaid (read_line line)
 in_line line = by (is_comment line) (list_any is_bad_byte line) where
   by : (b c : Bool) → AreSaid (if b then Ok None else if c then Err BadByte else statement_of (words line))
-  by true c = tt
-  by false true = tt
   by false false = in_statement (words line)
+  by b c = tt
 
 in_lines : (ls : List (List ℕ)) → AllByRecursion AreSaid (map read_line ls)
 in_lines [] = tt
@@ -121,13 +109,9 @@ in_lines (l ∷ ls) = (in_line l, in_lines ls)
 
 -- ---- texts, and queries taken together
 
-all-flat : {X : Type 0} (f : X → List InnerSink) (xs : List X) → AllByRecursion (λ x. AllByRecursion IsLocated (f x)) xs → AllByRecursion IsLocated (flat_map f xs)
-all-flat f [] a = tt
-all-flat f (x ∷ xs) a = all-append IsLocated (f x) (flat_map f xs) a.0 (all-flat f xs a.1)
-
 -- what the lines of a text choose, one after another
 pub lines_located : (text : List ℕ) → AreLocated (flat_map points_in (read_lines text))
-lines_located text = All-from_recursion IsLocated (flat_map points_in (read_lines text)) (all-flat points_in (read_lines text) (in_lines (lines text)))
+lines_located text = All-from_recursion IsLocated (flat_map points_in (read_lines text)) (all-flat IsLocated points_in (read_lines text) (in_lines (lines text)))
 
 -- each once, they are at locations too
 pub set_located : (points : List InnerSink) → AreLocated points → AreLocated (set_of inner_cmp points)
@@ -142,11 +126,8 @@ points_of_texts text q e = by (first_fault 1 false (read_lines text)) e where
       subst (λ q. AreLocated q.points) same (set_located (flat_map points_in (read_lines text)) (lines_located text))
   by (Some fault) f = cc
 
-each_of : (qs : List Query) → AllByRecursion (λ q. AreLocated q.points) qs → AllByRecursion (λ q. AllByRecursion IsLocated q.points) qs
-each_of [] a = tt
-each_of (q ∷ qs) a = (recursion_from_All IsLocated q.points a.0, each_of qs a.1)
-
 pub points_together : PointsTogether
 points_together qs a =
     let points = flat_map (λ q. q.points) qs in
-    set_located points (All-from_recursion IsLocated points (all-flat (λ q. q.points) qs (each_of qs (recursion_from_All (λ q. AreLocated q.points) qs a))))
+    let each = all-weaken (λ q. AreLocated q.points) _ (λ q. recursion_from_All IsLocated q.points) qs (recursion_from_All (λ q. AreLocated q.points) qs a) in
+    set_located points (All-from_recursion IsLocated points (all-flat IsLocated (λ q. q.points) qs each))

@@ -46,10 +46,7 @@ points_need q t =
 
 call_needs : (t : ℕ) (call : CallSeen) (k : CallKind) → AllByRecursion (λ x. steps_for_sink x ≡ t + 1) (sinks_of_call t call k)
 call_needs t call kind.Write = all-map (λ x. steps_for_sink x ≡ t + 1) (sink_at t call) (range_with_len 0 call.length) (all-weaken (λ i. Unit {0}) _ (λ i u. refl) (range_with_len 0 call.length) (each-trivial (range_with_len 0 call.length)))
-call_needs t call kind.Read = tt
-call_needs t call kind.Clock = tt
-call_needs t call kind.Other = tt
-call_needs t call kind.Exit = tt
+call_needs t call k = tt
 
 step_needs : (t : ℕ) (o : Option CallSeen) → AllByRecursion (λ x. steps_for_sink x ≡ t + 1) (sinks_of_step t o)
 step_needs t None = tt

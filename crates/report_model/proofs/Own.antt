@@ -150,21 +150,10 @@ any_flat {X} {Y} t f x (y ∷ ys) h e = ap (list_any t) (flat_map-cons f y ys) �
 
 same_rule : (a b : Rule) → is_same_rule a b ≡ true → a ≡ b
 same_rule Copy Copy e = refl
-same_rule Copy Keep e = cc
-same_rule Copy Compute e = cc
-same_rule Copy Index e = cc
-same_rule Keep Copy e = cc
 same_rule Keep Keep e = refl
-same_rule Keep Compute e = cc
-same_rule Keep Index e = cc
-same_rule Compute Copy e = cc
-same_rule Compute Keep e = cc
 same_rule Compute Compute e = refl
-same_rule Compute Index e = cc
-same_rule Index Copy e = cc
-same_rule Index Keep e = cc
-same_rule Index Compute e = cc
 same_rule Index Index e = refl
+same_rule a b e = cc
 
 none_differs : (rule : Rule) (n : ℕ) (qs : List Query) → other_rule rule n qs ≡ None → AllByRecursion (λ q. rule ≡ q.rule) qs
 none_differs rule n [] e = tt

@@ -68,10 +68,7 @@ module _ (q : Query) (p : InnerSink) where
   none_in_call : (t until : ℕ) (call : CallSeen) (k : CallKind) → AllByRecursion (λ x. x.name ≡ At p → IsOwn until x) (sinks_of_call t call k)
   none_in_call t until call kind.Write = all-map (λ (x : Sink). x.name ≡ At p → IsOwn until x) (sink_at t call) (range_with_len 0 call.length)
       (all-weaken _ (λ i. (sink_at t call i).name ≡ At p → IsOwn until (sink_at t call i)) (λ i u e. cc) (range_with_len 0 call.length) (each-trivial (range_with_len 0 call.length)))
-  none_in_call t until call kind.Read = tt
-  none_in_call t until call kind.Clock = tt
-  none_in_call t until call kind.Other = tt
-  none_in_call t until call kind.Exit = tt
+  none_in_call t until call k = tt
 
   none_in_step : (t until : ℕ) (call : Option CallSeen) → AllByRecursion (λ x. x.name ≡ At p → IsOwn until x) (sinks_of_step t call)
   none_in_step t until None = tt

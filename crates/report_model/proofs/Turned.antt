@@ -50,10 +50,7 @@ in_call call kind.Read p h =
     let inside : d < call.length = ltb-true d call.length h in
     let at = some-range 0 call.length d (omega arith) (omega (arith, inside)) in
     some-map (λ (b : SourceByte). b ≡ byte_at call (Mem p)) (source_at call) (range_with_len 0 call.length) (some-each _ (λ i. source_at call i ≡ byte_at call (Mem p)) (λ i e. ap (source_at call) e) (range_with_len 0 call.length) at)
-in_call call kind.Write p h = cc
-in_call call kind.Clock p h = cc
-in_call call kind.Other p h = cc
-in_call call kind.Exit p h = cc
+in_call call k p h = cc
 
 in_step : (call : CallSeen) (l : Loc) → is_received call l ≡ true → Some_in (λ b. b ≡ byte_at call l) (sources_of_step (Some call))
 in_step call (Reg r i) h = cc

@@ -33,10 +33,8 @@ prefix_trans xs ys zs p q = (p.0 ++ q.0, sym (append_assoc xs p.0 q.0) ∙ ap (�
 
 pub ended_append : (got more : List Message) → is_ended (got ++ more) ≡ (is_ended got || is_ended more)
 ended_append [] more = refl
-ended_append (Ask l ∷ ms) more = ended_append ms more
-ended_append (Byte b ∷ ms) more = ended_append ms more
-ended_append (Close l ∷ ms) more = ended_append ms more
 ended_append (End whole ∷ ms) more = refl
+ended_append (m ∷ ms) more = ended_append ms more
 
 pub ended_stays : (got more : List Message) → is_ended got ≡ true → is_ended (got ++ more) ≡ true
 ended_stays got more e = ended_append got more ∙ or_left (is_ended got) (is_ended more) e
@@ -44,16 +42,14 @@ ended_stays got more e = ended_append got more ∙ or_left (is_ended got) (is_en
 requests_stay : (got more : List Message) → is_ended got ≡ true → requests got ≡ requests (got ++ more)
 requests_stay [] more e = cc
 requests_stay (Ask l ∷ ms) more e = ap (λ (ls : List Loc). l ∷ ls) (requests_stay ms more e)
-requests_stay (Byte b ∷ ms) more e = requests_stay ms more e
-requests_stay (Close l ∷ ms) more e = requests_stay ms more e
 requests_stay (End whole ∷ ms) more e = refl
+requests_stay (m ∷ ms) more e = requests_stay ms more e
 
 pub requests_more : (got more : List Message) → is_ended got ≡ false → requests (got ++ more) ≡ requests got ++ requests more
 requests_more [] more e = refl
 requests_more (Ask l ∷ ms) more e = ap (λ (ls : List Loc). l ∷ ls) (requests_more ms more e)
-requests_more (Byte b ∷ ms) more e = requests_more ms more e
-requests_more (Close l ∷ ms) more e = requests_more ms more e
 requests_more (End whole ∷ ms) more e = cc
+requests_more (m ∷ ms) more e = requests_more ms more e
 
 pub answers_stay : (so_far : List SourceByte) (got more : List Message) → is_ended got ≡ true → answers_in so_far got ≡ answers_in so_far (got ++ more)
 answers_stay so_far [] more e = cc
@@ -110,14 +106,13 @@ asks_grow e got more = by (is_ended got) refl where
 -- what is answered stays answered, and alike
 answered_stays : (asked : List Loc) (xs ys : List (List SourceByte)) (l : Loc) → is_answered asked xs l ≡ true
     → (is_answered asked (xs ++ ys) l ≡ true) × (answer_to asked xs l ≡ answer_to asked (xs ++ ys) l)
-answered_stays [] xs ys l e = cc
-answered_stays (m ∷ ms) [] ys l e = cc
 answered_stays (m ∷ ms) (x ∷ xs) ys l e = by (answered_stays ms xs ys l) (eq_by_cmp loc_cmp l m) e where
   by : (is_answered ms xs l ≡ true → (is_answered ms (xs ++ ys) l ≡ true) × (answer_to ms xs l ≡ answer_to ms (xs ++ ys) l))
       → (b : Bool) → (b || is_answered ms xs l) ≡ true
       → ((b || is_answered ms (xs ++ ys) l) ≡ true) × (cond b x (answer_to ms xs l) ≡ cond b x (answer_to ms (xs ++ ys) l))
   by ih true h = (refl, refl)
   by ih false h = ih h
+answered_stays asked xs ys l e = cc
 
 all_stay : (asked : List Loc) (xs ys : List (List SourceByte)) (ls : List Loc) → list_all (is_answered asked xs) ls ≡ true
     → (list_all (is_answered asked (xs ++ ys)) ls ≡ true) × AllByRecursion (λ l. answer_to asked xs l ≡ answer_to asked (xs ++ ys) l) ls
@@ -175,11 +170,9 @@ answers_grow e asked ls got more = by (is_ended got) refl where
 
 pub nothing_is_left : NothingIsLeft
 nothing_is_left [] left h e = cc
-nothing_is_left (Ask l ∷ ms) left h e = nothing_is_left ms left h e
-nothing_is_left (Byte b ∷ ms) left h e = nothing_is_left ms left h e
-nothing_is_left (Close l ∷ ms) left h e = nothing_is_left ms left h e
 nothing_is_left (End whole ∷ []) left h e = h
 nothing_is_left (End whole ∷ m ∷ ms) left h e = cc
+nothing_is_left (m ∷ ms) left h e = nothing_is_left ms left h e
 
 end_alone : (b : Bool) → EndsLast (end_if b)
 end_alone true = refl

@@ -178,8 +178,6 @@ module _ (q : Query) (trace : List StepSeen) (steps : All IsInRange trace) (poin
       → HearsOrigins q trace s a (summaries ns)
       → Known q trace s (c ∷ cs) (a ∷ ns)
   known s c [] first a [] pos low h i d e k = known_last s c first a low h i.0 d k
-  known s c (x ∷ cs) first a [] pos low h i d e k = absurd i.1
-  known s c [] first a (b ∷ ns) pos low h i d e k = absurd i.1
   known s c (x ∷ cs) first a (b ∷ ns) pos low h i d e k =
       let policy = policy_of q in
       let asks = crossing (summaries (b ∷ ns)) in
@@ -214,16 +212,16 @@ module _ (q : Query) (trace : List StepSeen) (steps : All IsInRange trace) (poin
             ∙ sym (map-append (row q trace) (sinks_of_epoch q trace s (c - s)) (sinks_of_epoch q trace c (length trace - c)))
             ∙ ap (map (row q trace)) (sinks_on s c pos low high);
       }
+  known s c cs first a ns pos low h i d e k = absurd i.1
 
   known_all : (n : ℕ) → n ≡ length trace → (cuts : List ℕ) (a : Node) (ns : List Node) → IsCutting n cuts → AreSummaries q trace 0 cuts (summaries (a ∷ ns)) → AreDone true (a ∷ ns)
       → is_ended a.answers_got ≡ true → HearsOrigins q trace 0 a (summaries ns) → Known q trace 0 cuts (a ∷ ns)
-  known_all zero is [] a ns h i d e k = absurd i
   known_all zero is (c ∷ []) a [] h i d e k = let none : c ≡ 0 = cc in known_last 0 c true a (omega arith) (none ∙ is) i.0 d k
   known_all zero is (c ∷ []) a (b ∷ ns) h i d e k = absurd i.1
   known_all zero is (c ∷ x ∷ cs) a ns h i d e k = cc
-  known_all (suc n) is [] a ns h i d e k = absurd i
   known_all (suc n) is (c ∷ cs) a ns h i d e k =
       known 0 c cs true a ns (omega (arith, h.0)) (omega arith) (subst (RisesTo c cs) is h.1) i d e k
+  known_all n is [] a ns h i d e k = absurd i
 
 pub no_cuts : (n : ℕ) → IsCutting n [] → ⊥
 no_cuts zero h = cc

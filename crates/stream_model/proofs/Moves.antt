@@ -8,7 +8,7 @@ use Rattle.flow_model.specs.declared.Message.TheVariants.{Ask, End}
 use Rattle.report_model.specs.Rows.{Row}
 use Rattle.epoch_model.specs.Summary.{Summary}
 use Rattle.stream_model.specs.Passes.{Links, Asking, asking_event, Answering, answering_event}
-use Rattle.stream_model.specs.Schedules.{Need, Room, Item, Nothing, Over, is_met, asking_need, answering_need}
+use Rattle.stream_model.specs.Schedules.{Need, Room, is_met, asking_need, answering_need}
 use Rattle.stream_model.specs.ScheduleLaws.{one_if}
 use Rattle.stream_model.proofs.Events.{AskEvent, AsksNothing, PushesAsk, WalksSink, TakesAsk, DropsAsk, EndsAsks, ask_event, AnswerEvent, AnswersNothing, PushesAnswer, TakesAnswer, BuildsAnswer, ResolvesRows, DropsAnswer, EndsAnswers, answer_event}
 use Rattle.stream_model.proofs.NeverStill.{asking_goes, answering_goes, with_room, still_asking, still_answering}
@@ -27,9 +27,7 @@ AskCount a b moves = length b.sent + length b.got + length a.left ≡ length a.s
 
 same_met : (need : Need) (links : Links) → is_met need (freed links) ≡ is_met need links
 same_met Room links = refl
-same_met Item links = refl
-same_met Nothing links = refl
-same_met Over links = refl
+same_met need links = refl
 
 module _ (first : Bool) (e : Summary) (links : Links) (a : Asking) where
   pub count_asking : (asking_event first e links a).is_whole ≡ true → AskCount a (asking_event first e links a) (is_met (asking_need a) (freed links))
@@ -48,12 +46,9 @@ module _ (first : Bool) (e : Summary) (links : Links) (a : Asking) where
   pub whole_asking_before : (asking_event first e links a).is_whole ≡ true → a.is_whole ≡ true
   whole_asking_before t = by (ask_event first e links a) t where
     by : {b : Asking} {moves : Bool} → AskEvent first e links a b moves → b.is_whole ≡ true → a.is_whole ≡ true
-    by AsksNothing t = t
-    by (PushesAsk l waiting o w d r) t = w
     by (WalksSink refused k left o w s) t = w
     by (TakesAsk refused m o w l n i) t = w
-    by (DropsAsk m o w i) t = t
-    by (EndsAsks o n w r) t = t
+    by other t = t
 
 -- ---- an event of answering
 

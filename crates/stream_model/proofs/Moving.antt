@@ -13,7 +13,7 @@ use Rattle.stream_model.specs.Streams.{is_ended, heard, answer}
 use Rattle.stream_model.specs.StreamLaws.{IsPrefix}
 use Rattle.stream_model.specs.Passes.{Links, Asking, Answering, asking_event, answering_event}
 use Rattle.stream_model.specs.Schedules.{Phase, Fresh, Asks, Answers, NodeState, Event, asks_sent_in, asks_got_in, answers_sent_in, answers_got_in, first_of, next_item, asking_links, answering_links, begun, settled_by, node_event, phase_of_first, event_at, nodes_start, nodes_after}
-use Rattle.stream_model.proofs.Events.{AskEvent, AsksNothing, PushesAsk, WalksSink, TakesAsk, DropsAsk, EndsAsks, ask_event, AnswerEvent, AnswersNothing, PushesAnswer, TakesAnswer, BuildsAnswer, ResolvesRows, DropsAnswer, EndsAnswers, answer_event}
+use Rattle.stream_model.proofs.Events.{AskEvent, PushesAsk, WalksSink, TakesAsk, DropsAsk, EndsAsks, ask_event, AnswerEvent, AnswersNothing, PushesAnswer, TakesAnswer, BuildsAnswer, ResolvesRows, DropsAnswer, EndsAnswers, answer_event}
 use Rattle.stream_model.proofs.Growing.{prefix_same, prefix_trans, ended_stays, ended_append}
 
 -- ---- Ends in lists
@@ -78,14 +78,13 @@ asking_moves first e links a o r = by (ask_event first e links a) where
   ask_within b s g v = record { sent = inl s; got = g; running = λ _. ap is_ended s ∙ r; over = λ t. true-false (sym t ∙ v ∙ o) }
 
   by : {b : Asking} {moves : Bool} → AskEvent first e links a b moves → AskMoved links a b
-  by AsksNothing = ask_within a refl (inl refl) refl
   by (PushesAsk l waiting o w d n) = record { sent = inr (Ask l, n, refl); got = inl refl; running = λ _. ended_after a.sent (Ask l ∷ []) r; over = λ t. true-false (sym t ∙ o) }
   by (WalksSink true k left o w s) = ask_within _ refl (inl refl) refl
-  by (WalksSink false k left o w s) = ask_within _ refl (inl refl) refl
   by (TakesAsk true m o w l n i) = ask_within _ refl (inr (m, i, refl)) refl
   by (TakesAsk false m o w l n i) = ask_within _ refl (inr (m, i, refl)) refl
   by (DropsAsk m o w i) = ask_within _ refl (inr (m, i, refl)) refl
   by (EndsAsks o d w n) = record { sent = inr (End a.is_whole, n, refl); got = inl refl; running = true-false; over = λ _. (ended_after a.sent (End a.is_whole ∷ []) r, d) }
+  by other = ask_within _ refl (inl refl) refl
 
 -- ---- answering
 
@@ -140,14 +139,12 @@ pub record LinkHolds (p q : Phase) : Type 0 where
 
 -- where there is no link, the End counts as seen
 abbrev pub FirstHolds : Phase → Type 0
-FirstHolds Fresh = Unit {0}
-FirstHolds (Asks a) = Unit {0}
 FirstHolds (Answers a f) = is_ended f.got ≡ true
+FirstHolds p = Unit {0}
 
 abbrev pub LastHolds : Phase → Type 0
-LastHolds Fresh = Unit {0}
 LastHolds (Asks a) = is_ended a.got ≡ true
-LastHolds (Answers a f) = Unit {0}
+LastHolds p = Unit {0}
 
 abbrev pub PreviousHolds : Option Phase → Phase → Type 0
 PreviousHolds None p = FirstHolds p

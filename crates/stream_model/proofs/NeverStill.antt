@@ -14,7 +14,7 @@ use Rattle.stream_model.specs.StreamLaws.{IsPrefix}
 use Rattle.stream_model.specs.Passes.{Links, Asking, Answering}
 use Rattle.stream_model.specs.Schedules.{Phase, Fresh, Asks, Answers, NodeState, asks_sent_in, asks_got_in, answers_sent_in, answers_got_in, first_of, next_item, has_room_for, room_to, item_from, asking_links, answering_links, nodes_start, Need, is_met, item_or_room, whole_asking_need, asking_need_by, asking_need, nothing_or_room, last_need, nothing_or_item, whole_answering_need, answering_need_by, answering_need, node_moves, moves_at, is_done}
 use Rattle.stream_model.specs.ScheduleLaws.{NeverStill, StillAsking, StillAnswering}
-use Rattle.stream_model.proofs.Events.{AskEvent, AsksNothing, PushesAsk, WalksSink, TakesAsk, DropsAsk, EndsAsks, ask_event, AnswerEvent, AnswersNothing, PushesAnswer, TakesAnswer, BuildsAnswer, ResolvesRows, DropsAnswer, EndsAnswers, answer_event}
+use Rattle.stream_model.proofs.Events.{AskEvent, AsksNothing, ask_event, AnswerEvent, AnswersNothing, answer_event}
 use Rattle.stream_model.proofs.Growing.{ended_stays}
 use Rattle.stream_model.proofs.Moving.{PhaseHolds, LinkHolds, PreviousHolds, NextHolds, NodesHold, drop_front, reached, started}
 
@@ -103,9 +103,8 @@ with_room need links r (inr s) = true-false (sym r ∙ s)
 -- ---- while some node asks
 
 abbrev IsAnswering : Phase → Type 0
-IsAnswering Fresh = ⊥
-IsAnswering (Asks a) = ⊥
 IsAnswering (Answers a f) = Unit {0}
+IsAnswering p = ⊥
 
 abbrev AllAnswering : List NodeState → Type 0
 AllAnswering ns = AllByRecursion (λ n. IsAnswering n.phase) ns
@@ -118,9 +117,8 @@ Moves capacity previous ns = (k : ℕ) × (moves_at capacity k previous ns ≡ t
 
 -- the node asks, and a full link to the one before stops it
 abbrev IsStopped : ℕ → Option Phase → Phase → Type 0
-IsStopped capacity previous Fresh = ⊥
 IsStopped capacity previous (Asks a) = room_to capacity asks_got_in a.sent previous ≡ false
-IsStopped capacity previous (Answers a f) = ⊥
+IsStopped capacity previous p = ⊥
 
 abbrev Stopped : ℕ → Option Phase → List NodeState → Type 0
 Stopped capacity previous [] = ⊥
@@ -128,15 +126,13 @@ Stopped capacity previous (n ∷ ns) = IsStopped capacity previous n.phase
 
 -- the node answers, is not done, and has something to get where it needs it
 abbrev CanAnswer : Option Phase → Phase → Type 0
-CanAnswer previous Fresh = ⊥
-CanAnswer previous (Asks a) = ⊥
 CanAnswer previous (Answers a f) = (f.is_over ≡ false) × (is_ended f.got ≡ false → is_some (item_from answers_sent_in f.got previous) ≡ true)
+CanAnswer previous p = ⊥
 
 -- the node answers, and the link to the next node is full
 abbrev IsFull : ℕ → Option Phase → Phase → Type 0
-IsFull capacity next Fresh = ⊥
-IsFull capacity next (Asks a) = ⊥
 IsFull capacity next (Answers a f) = room_to capacity answers_got_in f.sent next ≡ false
+IsFull capacity next p = ⊥
 
 inside : {p q : Phase} → Some p ≡ Some q → p ≡ q
 inside same = cc
@@ -145,12 +141,11 @@ module _ (capacity : ℕ) (c : 0 < capacity) where
   -- a node before one that is stopped has an item to get
   under_stopped : (previous : Option Phase) (e : Summary) (p q : Phase) → PhaseHolds p → PhaseHolds q → LinkHolds p q → IsStopped capacity (Some p) q
       → (node_moves capacity previous (Some q) e p ≡ true) ⊎ IsStopped capacity previous p
-  under_stopped previous e p Fresh hp hq l s = absurd s
-  under_stopped previous e p (Answers a f) hp hq l s = absurd s
   under_stopped previous e Fresh (Asks b) hp hq l s = inl refl
   under_stopped previous e (Asks a) (Asks b) hp hq l s =
       asking_goes (asking_links capacity false previous (Some (Asks b)) a) a hp.0 (λ running. full_waits a.got b.sent l.asks capacity c s)
   under_stopped previous e (Answers a f) (Asks b) hp hq l s = true-false (sym (end_was_sent a.got b.sent l.asks hp.1) ∙ hq.1)
+  under_stopped previous e p q hp hq l s = absurd s
 
   -- a node before one that answers, and the last one, has an End to get
   under_answering : (previous next : Option Phase) (e : Summary) (p : Phase) → PhaseHolds p → NextHolds p next → ((q : Phase) → next ≡ Some q → PhaseHolds q × IsAnswering q)
@@ -185,25 +180,21 @@ module _ (capacity : ℕ) (c : 0 < capacity) where
   -- ---- once all nodes answer
 
   go_up : (previous next : Option Phase) (e : Summary) (p : Phase) → CanAnswer previous p → (node_moves capacity previous next e p ≡ true) ⊎ IsFull capacity next p
-  go_up previous next e Fresh t = absurd t
-  go_up previous next e (Asks a) t = absurd t
   go_up previous next e (Answers a f) t = answering_goes (answering_links capacity false previous next f) e a.asked f t.0 t.1
+  go_up previous next e p t = absurd t
 
   -- the next node after a full link is not done, and has an item to get
   can_answer_too : (previous : Option Phase) (p q : Phase) → PhaseHolds p → PhaseHolds q → LinkHolds p q → CanAnswer previous p → IsAnswering q → IsFull capacity (Some q) p → CanAnswer (Some p) q
-  can_answer_too previous Fresh q hp hq l t x s = absurd t
-  can_answer_too previous (Asks a) q hp hq l t x s = absurd t
-  can_answer_too previous (Answers a f) Fresh hp hq l t x s = absurd x
-  can_answer_too previous (Answers a f) (Asks b) hp hq l t x s = absurd x
   can_answer_too previous (Answers a f) (Answers b g) hp hq l t x s = by g.is_over refl where
     by : (over : Bool) → g.is_over ≡ over → CanAnswer (Some (Answers a f)) (Answers b g)
     by true o = true-false (sym (end_was_sent g.got f.sent l.answers (hq.2.over o).1) ∙ (hp.2.running t.0).0)
     by false o = (o, λ running. full_waits g.got f.sent l.answers capacity c s)
+  can_answer_too previous (Answers a f) q hp hq l t x s = absurd x
+  can_answer_too previous p q hp hq l t x s = absurd t
 
   room_at_last : (p : Phase) → IsFull capacity None p → ⊥
-  room_at_last Fresh s = s
-  room_at_last (Asks a) s = s
   room_at_last (Answers a f) s = true-false s
+  room_at_last p s = s
 
   up : (previous : Option Phase) (n : NodeState) (ns : List NodeState) → NodesHold previous (n ∷ ns) → CanAnswer previous n.phase → AllAnswering ns → Moves capacity previous (n ∷ ns)
   up previous n [] h t all = elim (go_up previous None n.summary n.phase t) [ inl m ↦ (zero, m) | inr s ↦ absurd (room_at_last n.phase s) ]
@@ -216,8 +207,6 @@ module _ (capacity : ℕ) (c : 0 < capacity) where
   -- a node that answers is done, or it hears, where what comes before it is done
   done_or_can_answer : (previous : Option Phase) (p : Phase) → PhaseHolds p → PreviousHolds previous p → IsAnswering p → ((q : Phase) → previous ≡ Some q → is_ended (answers_sent_in q) ≡ true)
       → ((is_done p ≡ true) × (is_ended (answers_sent_in p) ≡ true)) ⊎ CanAnswer previous p
-  done_or_can_answer previous Fresh h l x d = absurd x
-  done_or_can_answer previous (Asks a) h l x d = absurd x
   done_or_can_answer previous (Answers a f) h l x d = by f.is_over refl where
     waits : (previous : Option Phase) → PreviousHolds previous (Answers a f) → ((q : Phase) → previous ≡ Some q → is_ended (answers_sent_in q) ≡ true)
         → is_ended f.got ≡ false → is_some (item_from answers_sent_in f.got previous) ≡ true
@@ -227,6 +216,7 @@ module _ (capacity : ℕ) (c : 0 < capacity) where
     by : (over : Bool) → f.is_over ≡ over → ((f.is_over ≡ true) × (is_ended f.sent ≡ true)) ⊎ CanAnswer previous (Answers a f)
     by true o = inl (o, (h.2.over o).0)
     by false o = inr (o, waits previous l d)
+  done_or_can_answer previous p h l x d = absurd x
 
   seek : (previous : Option Phase) (ns : List NodeState) → NodesHold previous ns → AllAnswering ns → ((q : Phase) → previous ≡ Some q → is_ended (answers_sent_in q) ≡ true) → AllDone ns ⊎ Moves capacity previous ns
   seek previous [] h all d = inl tt
@@ -237,9 +227,8 @@ module _ (capacity : ℕ) (c : 0 < capacity) where
     on (inr t) next = inr (up previous n ns h t all.1)
 
   room_at_first : (p : Phase) → IsStopped capacity None p → ⊥
-  room_at_first Fresh s = s
   room_at_first (Asks a) s = true-false s
-  room_at_first (Answers a f) s = s
+  room_at_first p s = s
 
   pub goes_on : (ns : List NodeState) → NodesHold None ns → AllDone ns ⊎ Moves capacity None ns
   goes_on ns h = by ns h (down None ns h) where
@@ -258,19 +247,10 @@ pub still_asking : StillAsking
 still_asking first e links a s = by (ask_event first e links a) s where
   by : {b : Asking} {moves : Bool} → AskEvent first e links a b moves → moves ≡ false → b ≡ a
   by AsksNothing s = refl
-  by (PushesAsk l waiting o w d r) s = true-false s
-  by (WalksSink refused k left o w l) s = true-false s
-  by (TakesAsk refused m o w l n i) s = true-false s
-  by (DropsAsk m o w i) s = true-false s
-  by (EndsAsks o n w r) s = true-false s
+  by other s = true-false s
 
 pub still_answering : StillAnswering
 still_answering e asked links f s = by (answer_event e asked links f) s where
   by : {g : Answering} {moves : Bool} → AnswerEvent e asked links f g moves → moves ≡ false → g ≡ f
   by AnswersNothing s = refl
-  by (PushesAnswer m sending o w k r) s = true-false s
-  by (TakesAnswer refused m o w n i) s = true-false s
-  by (BuildsAnswer refused l left o w k p r) s = true-false s
-  by (ResolvesRows refused o w r n) s = true-false s
-  by (DropsAnswer m o w i) s = true-false s
-  by (EndsAnswers o n w r) s = true-false s
+  by other s = true-false s

@@ -54,8 +54,6 @@ module _ (q : Query) (trace : List StepSeen) where
       let sent : length n.answers_sent ≡ 1 = ap length e in
       let all = length-append n.rows [] in
       omega (arith, asked, sent, all)
-  total first s (c ∷ t ∷ cs) n [] d i l e = absurd i.1
-  total first s (c ∷ []) n (b ∷ ns) d i l e = absurd i.1
   total first s (c ∷ t ∷ cs) n (b ∷ ns) d i l e =
       let rest = total false c (t ∷ cs) b ns d.3 i.1 l.1 e in
       let asked = crossing_at q trace c (t ∷ cs) in
@@ -68,12 +66,12 @@ module _ (q : Query) (trace : List StepSeen) where
       let answers_sent : length n.answers_sent ≡ length b.answers_got = ap length (sym d.2) in
       let all = length-append n.rows (flat_map (λ m. m.rows) (b ∷ ns)) in
       omega (arith, rest, asks_got, asks_sent, requested, answers_got, answers_sent, all)
+  total first s cs n ns d i l e = absurd i.1
 
   one_each : (s : ℕ) (cs : List ℕ) (ns : List Node) → AreSummaries q trace s cs (summaries ns) → length ns ≡ length cs
   one_each s [] [] i = refl
-  one_each s [] (n ∷ ns) i = absurd i
-  one_each s (c ∷ cs) [] i = absurd i
   one_each s (c ∷ cs) (n ∷ ns) i = ap suc (one_each c cs ns i.1)
+  one_each s cs ns i = absurd i
 
 pub done_nodes_work : DoneNodesWork
 done_nodes_work q trace [] [] steps points c i d e = absurd (no_cuts (length trace) c)

@@ -9,7 +9,7 @@ use Rattle.lists.proofs.Tests.{true-false}
 use Rattle.flow_model.specs.declared.Loc.{Loc}
 use Rattle.flow_model.specs.declared.SourceByte.{SourceByte}
 use Rattle.flow_model.specs.declared.Message.{Message}
-use Rattle.flow_model.specs.declared.Message.TheVariants.{Ask, Byte, Close, End}
+use Rattle.flow_model.specs.declared.Message.TheVariants.{Ask, End}
 use Rattle.report_model.specs.Rows.{Row}
 use Rattle.epoch_model.specs.Summary.{Summary, SinkTerms}
 use Rattle.epoch_model.specs.Crossing.{added_all, wanted, asked_by}
@@ -31,11 +31,11 @@ module _ {X : Type 0} where
   one_more zero (y ∷ ys) x rest e =
       let same : y ≡ x = cc in
       (ap (λ (z : X). z ∷ []) same, omega arith)
-  one_more (suc n) [] x rest e = cc
   one_more (suc n) (y ∷ ys) x rest e =
       let later : suc n + 1 ≡ suc (n + 1) = omega arith in
       let more = one_more n ys x rest e in
       (ap (λ (i : ℕ). take i (y ∷ ys)) later ∙ ap (λ (zs : List X). y ∷ zs) more.0, omega (arith, more.1))
+  one_more (suc n) [] x rest e = cc
 
   none_more : (n : ℕ) (xs : List X) → drop n xs ≡ [] → take n xs ≡ xs
   none_more zero [] e = refl
@@ -77,9 +77,7 @@ nothing_more false asked ls f e = true-false (sym f)
 
 one_request : (e : Summary) (asked : List Loc) (m : Message) → added_all asked (wanted_for e m) ≡ added_all asked (flat_map (λ l. (e.ends l).starts) (requests (m ∷ [])))
 one_request e asked (Ask l) = ap (added_all asked) (sym (append-nil (e.ends l).starts))
-one_request e asked (Byte b) = refl
-one_request e asked (Close l) = refl
-one_request e asked (End whole) = refl
+one_request e asked m = refl
 
 -- what is asked for more requests
 asked_then : (e : Summary) (xs ys : List Loc) → asked_by e (xs ++ ys) ≡ added_all (asked_by e xs) (flat_map (λ l. (e.ends l).starts) ys)
@@ -92,6 +90,21 @@ asked_then e xs ys =
 pub asking_keeps : (first last : Bool) (e : Summary) (links : Links) (a : Asking) → (a.is_whole ≡ true → AskingHolds first last e a)
     → (asking_event first e links a).is_whole ≡ true → AskingHolds first last e (asking_event first e links a)
 asking_keeps first last e links a holds = by (ask_event first e links a) where
+  -- more is asked, and nothing sent
+  grown : a.is_over ≡ false → AskingHolds first last e a → (ls : List Loc) (left : List SinkTerms) (got : List Message) (whole : Bool)
+      → (first ≡ false → added_all (asked_more first a.asked ls) (starts left) ≡ asked_by e (requests got)) → (last ≡ true → got ≡ End true ∷ [])
+      → AskingHolds first last e (record a { asked = asked_more first a.asked ls; left = left; got = got; is_whole = whole })
+  grown o h ls left got whole asked alone =
+      let front = take_front a.pushed a.asked (asked_more first a.asked ls) h.within (more_keeps first a.asked ls) in
+      record {
+        sent = λ _. h.sent o ∙ ap (map Ask) (sym front.0);
+        within = front.1;
+        nothing = λ f. nothing_more first a.asked ls f (h.nothing f);
+        asked = asked;
+        alone = alone;
+        over = λ t. true-false (sym t ∙ o);
+      }
+
   by : {b : Asking} {moves : Bool} → AskEvent first e links a b moves → b.is_whole ≡ true → AskingHolds first last e b
   by AsksNothing t = holds t
   by (PushesAsk l waiting o w d r) t =
@@ -108,34 +121,19 @@ asking_keeps first last e links a holds = by (ask_event first e links a) where
   by (WalksSink true k left o w s) t = true-false (sym t)
   by (WalksSink false k left o w s) t =
       let h = holds w in
-      let front = take_front a.pushed a.asked (asked_more first a.asked k.terms.starts) h.within (more_keeps first a.asked k.terms.starts) in
-      record {
-        sent = λ _. h.sent o ∙ ap (map Ask) (sym front.0);
-        within = front.1;
-        nothing = λ f. nothing_more first a.asked k.terms.starts f (h.nothing f);
-        asked = λ f. ap (λ (b : Bool). added_all (asked_more b a.asked k.terms.starts) (starts left)) f
-            ∙ sym (added_all-append a.asked k.terms.starts (starts left)) ∙ ap (λ (ks : List SinkTerms). added_all a.asked (starts ks)) (sym s) ∙ h.asked f;
-        alone = h.alone;
-        over = λ t. true-false (sym t ∙ o);
-      }
+      grown o h k.terms.starts left a.got a.is_whole (λ f. ap (λ (b : Bool). added_all (asked_more b a.asked k.terms.starts) (starts left)) f
+      ∙ sym (added_all-append a.asked k.terms.starts (starts left)) ∙ ap (λ (ks : List SinkTerms). added_all a.asked (starts ks)) (sym s) ∙ h.asked f) h.alone
   by (TakesAsk true m o w l n i) t = true-false (sym t)
   by (TakesAsk false m o w l n i) t = taken (is_whole_message m) t where
     taken : (b : Bool) → b ≡ true → AskingHolds first last e (record a { got = a.got ++ m ∷ []; asked = asked_if b (asked_more first a.asked (wanted_for e m)); is_whole = b })
     taken false t = true-false (sym t)
     taken true t =
         let h = holds w in
-        let front = take_front a.pushed a.asked (asked_more first a.asked (wanted_for e m)) h.within (more_keeps first a.asked (wanted_for e m)) in
-        record {
-          sent = λ _. h.sent o ∙ ap (map Ask) (sym front.0);
-          within = front.1;
-          nothing = λ f. nothing_more first a.asked (wanted_for e m) f (h.nothing f);
-          asked = λ f. ap₂ (λ (b : Bool) (ks : List SinkTerms). added_all (asked_more b a.asked (wanted_for e m)) (starts ks)) f l
-              ∙ one_request e a.asked m
-              ∙ ap (λ (ls : List Loc). added_all ls (flat_map (λ l. (e.ends l).starts) (requests (m ∷ [])))) (ap (λ (ks : List SinkTerms). added_all a.asked (starts ks)) (sym l) ∙ h.asked f)
-              ∙ sym (asked_then e (requests a.got) (requests (m ∷ []))) ∙ ap (asked_by e) (sym (requests_more a.got (m ∷ []) n));
-          alone = λ last. true-false (sym (ap is_ended (h.alone last)) ∙ n);
-          over = λ t. true-false (sym t ∙ o);
-        }
+        grown o h (wanted_for e m) a.left (a.got ++ m ∷ []) true (λ f. ap₂ (λ (b : Bool) (ks : List SinkTerms). added_all (asked_more b a.asked (wanted_for e m)) (starts ks)) f l
+        ∙ one_request e a.asked m
+        ∙ ap (λ (ls : List Loc). added_all ls (flat_map (λ l. (e.ends l).starts) (requests (m ∷ [])))) (ap (λ (ks : List SinkTerms). added_all a.asked (starts ks)) (sym l) ∙ h.asked f)
+        ∙ sym (asked_then e (requests a.got) (requests (m ∷ []))) ∙ ap (asked_by e) (sym (requests_more a.got (m ∷ []) n)))
+        (λ last. true-false (sym (ap is_ended (h.alone last)) ∙ n))
   by (DropsAsk m o w i) t = true-false (sym t ∙ w)
   by (EndsAsks o n w r) t =
       let h = holds t in
@@ -325,13 +323,10 @@ pub begun_whole : (e : Summary) (asked : List Loc) (schedule : List Links) (f : 
 begun_whole e asked [] f w = w
 begun_whole e asked (links ∷ schedule) f w = by (answer_event e asked links f) (begun_whole e asked schedule (answering_event e asked links f) w) where
   by : {g : Answering} {moves : Bool} → AnswerEvent e asked links f g moves → g.is_whole ≡ true → f.is_whole ≡ true
-  by AnswersNothing t = t
-  by (PushesAnswer m sending o w s r) t = w
   by (TakesAnswer refused m o w n i) t = w
   by (BuildsAnswer refused l left o w s k r) t = w
   by (ResolvesRows refused o w r n) t = w
-  by (DropsAnswer m o w i) t = t
-  by (EndsAnswers o n w r) t = t
+  by other t = t
 
 pub passes_end_done : PassesEndDone
 passes_end_done first last e schedule later =

@@ -42,14 +42,11 @@ module _ (first : Bool) (e : Summary) (links : Links) (a : Asking) where
   pub asks_no_more : AsksNoMore a (asking_event first e links a)
   asks_no_more = by (ask_event first e links a) where
     by : {b : Asking} {moves : Bool} → AskEvent first e links a b moves → AsksNoMore a b
-    by AsksNothing broken = inl refl
     by (PushesAsk l waiting o w d r) broken = true-false (sym w ∙ broken)
-    by (WalksSink true k left o w s) broken = inl refl
-    by (WalksSink false k left o w s) broken = inl refl
-    by (TakesAsk true m o w l n i) broken = inl refl
-    by (TakesAsk false m o w l n i) broken = inl refl
-    by (DropsAsk m o w i) broken = inl refl
     by (EndsAsks o n w r) broken = inr (o, ap (λ (b : Bool). a.sent ++ End b ∷ []) broken)
+    by (WalksSink true k left o w s) broken = inl refl
+    by (TakesAsk true m o w l n i) broken = inl refl
+    by other broken = inl refl
 
 -- ---- answering: a message is sent or got, an answer or the rows are made, or the pass breaks
 
@@ -82,16 +79,12 @@ module _ (e : Summary) (asked : List Loc) (links : Links) (f : Answering) where
   pub answers_no_more : AnswersNoMore f (answering_event e asked links f)
   answers_no_more = by (answer_event e asked links f) where
     by : {g : Answering} {moves : Bool} → AnswerEvent e asked links f g moves → AnswersNoMore f g
-    by AnswersNothing broken = inl refl
     by (PushesAnswer m sending o w s r) broken = true-false (sym w ∙ broken)
-    by (TakesAnswer true m o w n i) broken = inl refl
-    by (TakesAnswer false m o w n i) broken = inl refl
-    by (BuildsAnswer true l left o w s k r) broken = inl refl
-    by (BuildsAnswer false l left o w s k r) broken = inl refl
-    by (ResolvesRows true o w r n) broken = inl refl
-    by (ResolvesRows false o w r n) broken = inl refl
-    by (DropsAnswer m o w i) broken = inl refl
     by (EndsAnswers o n w r) broken = inr (o, ap (λ (b : Bool). f.sent ++ End b ∷ []) broken)
+    by (TakesAnswer true m o w n i) broken = inl refl
+    by (BuildsAnswer true l left o w s k r) broken = inl refl
+    by (ResolvesRows true o w r n) broken = inl refl
+    by other broken = inl refl
 
 -- ---- an event whose links have room and an item moves
 
