@@ -9,7 +9,7 @@ use Rattle.isa.specs.Machine.{State, reg, call_of, overwritten}
 use Rattle.isa.specs.Calls.{buffer_of}
 use Rattle.isa.proofs.Window.{length-overwritten, window_start}
 use Rattle.log_model.specs.declared.CallRecord.{CallRecord}
-use Rattle.log_model.specs.declared.CallRecord.TheVariants.{Read, Write, Clock, Other}
+use Rattle.log_model.specs.declared.CallRecord.TheVariants.{Read}
 use Rattle.log_model.specs.declared.RunEnd.{RunEnd}
 use Rattle.log_model.specs.declared.RunEnd.TheVariants.{Exit, Trap, Limit}
 use Rattle.log_model.specs.Logs.{Log, IsRecord, IsEnd, end_at, share}
@@ -17,7 +17,7 @@ use Rattle.log_model.specs.Moved.{received, received_by}
 use Rattle.replay_model.specs.Run.{state_after}
 use Rattle.replay_model.specs.Comparison.{divergence}
 use Rattle.replay_model.proofs.Transfers.{read_held, window_end}
-use Rattle.record_model.specs.Recorded.{input_of, clock_values, EndsWithin}
+use Rattle.record_model.specs.Recorded.{clock_values, EndsWithin}
 use Rattle.record_model.specs.Calls.{record_at, EndsIn}
 use Rattle.record_model.proofs.Calls.{next_record, IsHere, next_here}
 use Rattle.record_model.proofs.Pushes.{values_push}
@@ -96,25 +96,20 @@ so_far_none source r told few fresh goes_on window =
 
 -- ---- a plain step
 
-plain_more : (start : State) (source : Source) (told told_now told_after : Option (List ℕ)) (t : ℕ) (r after : Recorder)
-    (values : List ℕ) → IsSoFar start source told t r told_now → Tells told_now told_after (Gains values)
-    → IsPlain values (point_of r) after → IsSoFar start source told (t + 1) after told_after
-plain_more start source told told_now told_after t r after values so_far gained plain =
+plain_more : {start : State} {source : Source} {told told_now told_after : Option (List ℕ)} {t : ℕ} {r after : Recorder} {values : List ℕ}
+    → IsSoFar start source told t r told_now → Tells told_now told_after (Gains values) → IsPlain values (point_of r) after
+    → IsSoFar start source told (t + 1) after told_after
+plain_more {start} {source} {told} {told_now} {told_after} {t} {r} {after} so_far gained plain =
     let window = so_far.safe.window in
     let kept = step_keeps r.machine.state after.machine.state plain.retired in
     record {
       records = so_far.records;
-      runs = runs_plain start (contents source.inputs.now) source.piece so_far.records t r.machine.state
-          after.machine.state plain.retired so_far.runs;
-      holds = subst (λ (x : Tape). Holds x so_far.records) (sym plain.tape) so_far.holds;
-      inputs = ap (λ (x : Tape). x.inputs) plain.tape ∙ so_far.inputs;
-      counts = λ c. ap (λ (w : List ℕ). get_or w c 0) plain.counts ∙ so_far.counts c;
+      runs = runs_plain start (contents source.inputs.now) source.piece so_far.records t r.machine.state after.machine.state plain.retired so_far.runs;
+      holds = rw plain.tape so_far.holds;
+      inputs = rw plain.tape so_far.inputs;
+      counts = rw plain.counts so_far.counts;
       goes_on = plain.goes_on;
-      safe = record {
-        window = omega arith;
-        within = λ c. subst (λ (w : List ℕ). get_or w c 0 ≤ length (input_of (contents source.inputs.now) c))
-            (sym plain.counts) (so_far.safe.within c);
-      };
+      safe = record { window = omega arith; within = rw plain.counts so_far.safe.within };
       gained = tells-gains-none told told_now told_after (clock_values so_far.records) so_far.gained
           (subst (λ (w : List ℕ). Tells told_now told_after (Gains w)) plain.no_values gained);
     }
@@ -124,8 +119,8 @@ abbrev at_state : Recorder → State → Recorder
 at_state r s = record r { machine = running s }
 
 -- plain steps in a row, whoever is told of them
-module _ {W : Type 0} {heard : TellsOf W} {wants : Wants W} (start : State) (source : Source) (told told_now : Option (List ℕ)) (t : ℕ)
-    (r : Recorder) {was : W} (so_far : IsSoFar start source told t r told_now) where
+module _ {W : Type 0} {heard : TellsOf W} {wants : Wants W} {start : State} {source : Source} {told told_now : Option (List ℕ)} {t : ℕ}
+    {r : Recorder} {was : W} (so_far : IsSoFar start source told t r told_now) where
   row : {n : ℕ} {s : State} {w : W} → IsFollowed heard wants r.machine.state was n s w
       → IsSoFar start source told (t + n) (at_state r s) told_now
   row Begun =
@@ -138,11 +133,11 @@ module _ {W : Type 0} {heard : TellsOf W} {wants : Wants W} (start : State) (sou
       let more : t + n + 1 ≡ t + suc n = omega arith in
       let plain : IsPlain [] (point_of (at_state r s)) (at_state r after) = record { retired = step.retired; goes_on = refl; counts = refl; tape = refl; no_values = refl } in
       subst (λ (n : ℕ). IsSoFar start source told n (at_state r after) told_now) more
-      (plain_more start source told told_now told_now (t + n) (at_state r s) (at_state r after) [] (row before) (tells_none told_now) plain)
+      (plain_more (row before) (tells_none told_now) plain)
 
-  pub so_far_row : (n : ℕ) (after : Hart) {w : W} → IsFollowed heard wants r.machine.state was n after.state w → after.waits ≡ false
+  pub so_far_row : {n : ℕ} (after : Hart) {w : W} → IsFollowed heard wants r.machine.state was n after.state w → after.waits ≡ false
       → IsSoFar start source told (t + n) (record r { machine = after }) told_now
-  so_far_row n after followed goes_on =
+  so_far_row {n} after followed goes_on =
       subst (λ (b : Bool). IsSoFar start source told (t + n) (record r { machine = record { state = after.state; waits = b } }) told_now)
       (sym goes_on) (row followed)
 
@@ -166,9 +161,7 @@ window_after inputs piece before t s (Read at args result bytes) here =
     let above = window_start s (reg s 11) (length bytes) held.held in
     let below = window_end s (reg s 11) (length bytes) held.held in
     (omega arith, omega arith)) (cases_lt 0 (length bytes))
-window_after inputs piece before t s (Write at args result bytes) here = refl
-window_after inputs piece before t s (Clock at value) here = refl
-window_after inputs piece before t s (Other at number) here = refl
+window_after inputs piece before t s r here = refl
 
 shares_push : (inputs : ℕ) (rs : List CallRecord) (r : CallRecord)
     → sum_by (share inputs) (rs ++ r ∷ []) ≡ sum_by (share inputs) rs + share inputs r
@@ -204,106 +197,91 @@ here_now source t values p records made counts e form =
     subst (IsHere inputs source.piece records t s) (sym is)
     (next_here inputs source.piece records values t s (call_of s).kind (subst IsRecord is form))
 
-call_more : (start : State) (source : Source) (told told_now told_after : Option (List ℕ)) (t : ℕ) (r after : Recorder)
-    (values : List ℕ) → IsSoFar start source told t r told_now → Tells told_now told_after (Gains values)
-    → IsCall source t values (point_of r) after → IsSoFar start source told (t + 1) after told_after
-call_more start source told told_now told_after t r after values so_far gained call =
+call_more : {start : State} {source : Source} {told told_now told_after : Option (List ℕ)} {t : ℕ} {r after : Recorder} {values : List ℕ}
+    → IsSoFar start source told t r told_now → Tells told_now told_after (Gains values) → IsCall source t values (point_of r) after
+    → IsSoFar start source told (t + 1) after told_after
+call_more {start} {source} {told} {told_now} {told_after} {t} {r} {after} {values} so_far gained call =
     let made = call.records.made in
     let keeps = call.records.keeps in
     let s = r.machine.state in
     let inputs = contents source.inputs.now in
-    let here = here_now source t values (point_of r) so_far.records made so_far.counts call.records.is_due
-    call.records.form in
+    let all = so_far.records ++ made ∷ [] in
+    let here = here_now source t values (point_of r) so_far.records made so_far.counts call.records.is_due call.records.form in
     let state : after.machine.state ≡ state_after s made = ap (λ (h : Hart). h.state) keeps.machine in
-    let runs = runs_call start inputs source.piece so_far.records t s made (call_of s) call.called call.records.kind_is
-    here so_far.runs in
-    let counts : (c : ℕ) → get_or after.counts c 0
-    ≡ length (received c (so_far.records ++ made ∷ [])) = λ c. keeps.counts c
-    ∙ ap (λ (n : ℕ). n + length (received_by c made)) (so_far.counts c)
-    ∙ sym (length-received-push c so_far.records made) in
+    let runs = runs_call start inputs source.piece so_far.records t s made (call_of s) call.called call.records.kind_is here so_far.runs in
+    let counts : (c : ℕ) → get_or after.counts c 0 ≡ length (received c all) =
+    λ c. keeps.counts c ∙ ap (λ (n : ℕ). n + length (received_by c made)) (so_far.counts c) ∙ sym (length-received-push c so_far.records made) in
     let window = so_far.safe.window in
-    let memory : length after.machine.state.memory ≡ length s.memory = ap (λ (x : State). length x.memory) state
-    ∙ window_after inputs source.piece so_far.records t s made here in
+    let memory : length after.machine.state.memory ≡ length s.memory =
+    ap (λ (x : State). length x.memory) state ∙ window_after inputs source.piece so_far.records t s made here in
     record {
-      records = so_far.records ++ made ∷ [];
-      runs = subst (RunsTo start inputs source.piece (so_far.records ++ made ∷ []) (t + 1)) (sym state) runs;
+      records = all;
+      runs = subst (RunsTo start inputs source.piece all (t + 1)) (sym state) runs;
       holds = holds_more r.tape after.tape so_far.records made so_far.holds keeps.tape;
       inputs = keeps.tape.inputs ∙ so_far.inputs;
       counts = counts;
       goes_on = ap (λ (h : Hart). h.waits) keeps.machine;
       safe = record {
         window = omega arith;
-        within = λ c. let up = counts c in let below = received-within inputs source.piece (so_far.records ++ made ∷ [])
-            runs.form runs.reads c in omega arith;
+        within = λ c. let up = counts c in let below = received-within inputs source.piece all runs.form runs.reads c in omega arith;
       };
       gained = subst (λ (w : List ℕ). Tells told told_after (Gains w))
-          (ap (λ (w : List ℕ). clock_values so_far.records ++ w) (sym call.records.values_are)
-          ∙ sym (values_push so_far.records made))
+          (ap (λ (w : List ℕ). clock_values so_far.records ++ w) (sym call.records.values_are) ∙ sym (values_push so_far.records made))
           (tells-gains told told_now told_after (clock_values so_far.records) values so_far.gained gained);
     }
 
--- one more step
-pub so_far_more : (start : State) (source : Source) (told told_now told_after : Option (List ℕ)) (t : ℕ)
-    (r after : Recorder) → IsSoFar start source told t r told_now
-    → GoesOn source t (point_of r) after told_now told_after → IsSoFar start source told (t + 1) after told_after
-so_far_more start source told told_now told_after t r after so_far on = by on.step
-  where
-    by : IsPlain on.values (point_of r) after ⊎ IsCall source t on.values (point_of r) after
-        → IsSoFar start source told (t + 1) after told_after
-    by (inl plain) = plain_more start source told told_now told_after t r after on.values so_far on.gained plain
-    by (inr call) = call_more start source told told_now told_after t r after on.values so_far on.gained call
-
--- ---- the end
-
-ends_by : (s : State) (t steps : ℕ) (end : RunEnd) → t < steps → EndsIn s t end
-    → (end_at end ≡ t) × EndsWithin steps end
+-- how a run ends before its steps are done
+ends_by : (s : State) (t steps : ℕ) (end : RunEnd) → t < steps → EndsIn s t end → (end_at end ≡ t) × EndsWithin steps end
 ends_by s t steps (Exit at code) early stop = let at_is = stop.0 in (at_is, omega arith)
 ends_by s t steps (Trap at kind pc) early stop = let at_is = stop.0 in (at_is, omega arith)
 ends_by s t steps (Limit at) early stop = absurd stop
 
-ended : (start : State) (source : Source) (told told_now : Option (List ℕ)) (t steps : ℕ) (r : Recorder) (end : RunEnd)
-    → IsEnd end → (end_at end ≡ t) × EndsWithin steps end → (so_far : IsSoFar start source told t r told_now)
-    → ((log : Log) → log.inputs ≡ length (contents source.inputs.now) → log.records ≡ so_far.records → log.end ≡ end
-    → divergence start log ≡ None) → IsRunOf start source steps end so_far.records
-ended start source told told_now t steps r end form by so_far agrees =
-    let before = so_far.runs.before in
-    let at = by.0 in
-    record {
-      form = so_far.runs.form;
-      end_form = form;
-      rise = so_far.runs.rise;
-      ends_after = omega arith;
-      reads = so_far.runs.reads;
-      ends = by.1;
-      agrees = λ log i w e. agrees log (i ∙ sym (length-map source.inputs.now _)) w e;
-    }
+module _ {start : State} {source : Source} {told told_now : Option (List ℕ)} {t : ℕ} {r : Recorder} (so_far : IsSoFar start source told t r told_now) where
+  -- one more step
+  pub so_far_more : {told_after : Option (List ℕ)} {after : Recorder} → GoesOn source t (point_of r) after told_now told_after
+      → IsSoFar start source told (t + 1) after told_after
+  so_far_more {told_after} {after} on = by on.step
+    where
+      by : IsPlain on.values (point_of r) after ⊎ IsCall source t on.values (point_of r) after → IsSoFar start source told (t + 1) after told_after
+      by (inl plain) = plain_more so_far on.gained plain
+      by (inr call) = call_more so_far on.gained call
 
--- the run ends before its steps are done
-pub so_far_stops : (start : State) (source : Source) (told told_now told_after : Option (List ℕ)) (t steps : ℕ)
-    (r after : Recorder) (end : RunEnd) → t < steps → IsSoFar start source told t r told_now
-    → Stops t end (point_of r) after told_now told_after → IsWhole start source steps end after.tape told told_after
-so_far_stops start source told told_now told_after t steps r after end early so_far stops =
-    record {
-      records = so_far.records;
-      run = ended start source told told_now t steps r end stops.form
-          (ends_by r.machine.state t steps end early stops.ends_in) so_far
-          (runs_end start (contents source.inputs.now) source.piece so_far.records t r.machine.state end stops.ends_in
-          so_far.runs);
-      holds = subst (λ (x : Tape). Holds x so_far.records) (sym stops.tape) so_far.holds;
-      gained = tells-gains-none told told_now told_after (clock_values so_far.records) so_far.gained stops.gained;
-      inputs_are = ap (λ (x : Tape). x.inputs) stops.tape ∙ so_far.inputs;
-    }
+  ended : (steps : ℕ) (end : RunEnd) → IsEnd end → (end_at end ≡ t) × EndsWithin steps end
+      → ((log : Log) → log.inputs ≡ length (contents source.inputs.now) → log.records ≡ so_far.records → log.end ≡ end → divergence start log ≡ None)
+      → IsRunOf start source steps end so_far.records
+  ended steps end form by agrees =
+      let before = so_far.runs.before in
+      let at = by.0 in
+      record {
+        form = so_far.runs.form;
+        end_form = form;
+        rise = so_far.runs.rise;
+        ends_after = omega arith;
+        reads = so_far.runs.reads;
+        ends = by.1;
+        agrees = λ log i w e. agrees log (i ∙ sym (length-map source.inputs.now _)) w e;
+      }
 
--- the steps are done
-pub so_far_cut : (start : State) (source : Source) (told told_now : Option (List ℕ)) (steps : ℕ) (r : Recorder)
-    → steps ≤ 2 ^ 40 → IsSoFar start source told steps r told_now
-    → IsWhole start source steps (Limit steps) r.tape told told_now
-so_far_cut start source told told_now steps r small so_far =
-    record {
-      records = so_far.records;
-      run = ended start source told told_now steps steps r (Limit steps) small (refl, refl) so_far
-          (runs_cut start (contents source.inputs.now) source.piece so_far.records steps r.machine.state so_far.runs);
-      holds = so_far.holds;
-      gained = so_far.gained;
-      inputs_are = so_far.inputs;
-    }
+  -- the run ends before its steps are done
+  pub so_far_stops : {told_after : Option (List ℕ)} {after : Recorder} {steps : ℕ} {end : RunEnd} → t < steps → Stops t end (point_of r) after told_now told_after
+      → IsWhole start source steps end after.tape told told_after
+  so_far_stops {told_after} {after} {steps} {end} early stops = record {
+    records = so_far.records;
+    run = ended steps end stops.form (ends_by r.machine.state t steps end early stops.ends_in)
+        (runs_end start (contents source.inputs.now) source.piece so_far.records t r.machine.state end stops.ends_in so_far.runs);
+    holds = rw stops.tape so_far.holds;
+    gained = tells-gains-none told told_now told_after (clock_values so_far.records) so_far.gained stops.gained;
+    inputs_are = rw stops.tape so_far.inputs;
+  }
+
+  -- the steps are done
+  pub so_far_cut : (steps : ℕ) → steps ≤ 2 ^ 40 → t ≡ steps → IsWhole start source steps (Limit steps) r.tape told told_now
+  so_far_cut steps small done = record {
+    records = so_far.records;
+    run = ended steps (Limit steps) small (sym done, refl) (subst (λ (n : ℕ). (log : Log) → log.inputs ≡ length (contents source.inputs.now)
+        → log.records ≡ so_far.records → log.end ≡ Limit n → divergence start log ≡ None) done
+        (runs_cut start (contents source.inputs.now) source.piece so_far.records t r.machine.state so_far.runs));
+    holds = so_far.holds;
+    gained = so_far.gained;
+    inputs_are = so_far.inputs;
+  }

@@ -8,8 +8,8 @@ use Rattle.std.proofs.lemmas.List.{length-replicate}
 use Rattle.std.proofs.lemmas.List.Elements.{recursion_from_All}
 use Rattle.std.proofs.lemmas.Option.{same_Some}
 use Rattle.isa.specs.declared.Effect.{Effect}
-use Rattle.isa.specs.declared.Effect.TheVariants.{SetRegister, Jump, Branch, Load, Store, MoveOn, EnvironmentCall, Breakpoint}
-use Rattle.isa.specs.Machine.{State, Retired, next, Fetch, Fetched, OutsideWindow, Illegal, fetch, outcome_of, execute, effect_of, landed, jumped, branched, loaded, stored, low_bytes, overwritten, in_window, is_aligned, moved_on, moved_on_with}
+use Rattle.isa.specs.declared.Effect.TheVariants.{SetRegister, Jump, Branch, Load, Store, MoveOn}
+use Rattle.isa.specs.Machine.{State, Retired, next, Fetch, Fetched, fetch, outcome_of, execute, effect_of, landed, jumped, branched, loaded, stored, low_bytes, overwritten, in_window, is_aligned, moved_on, moved_on_with}
 use Rattle.isa.proofs.Window.{length-overwritten}
 use Rattle.elf_model.specs.Image.{Image, LoadedSegment}
 use Rattle.elf_model.specs.Window.{can_hold, laid_out, start_of, start_with, start_in}
@@ -29,25 +29,20 @@ overwritten_none memory i bytes h =
 
 -- ---- a step
 
-landed_is : (b : Bool) (s after : State) → landed b s ≡ Retired after → s ≡ after
-landed_is true s after e = cc
-landed_is false s after e = cc
+retired_keeps : (s after : State) → Retired s ≡ Retired after → length after.memory ≡ length s.memory
+retired_keeps s after e = let same : after ≡ s = cc in ap (λ (x : State). length x.memory) same
 
-memory_same : (s after : State) → s ≡ after → length after.memory ≡ length s.memory
-memory_same s after e = ap (λ (x : State). length x.memory) (sym e)
+landed_keeps : (b : Bool) (s after : State) → landed b s ≡ Retired after → length after.memory ≡ length s.memory
+landed_keeps true s after e = retired_keeps s after e
+landed_keeps false s after e = cc
 
-branch_keeps : (s after : State) (taken : Bool) (target : ℕ) → branched s taken target ≡ Retired after
-    → length after.memory ≡ length s.memory
-branch_keeps s after true target e = memory_same (record s { pc = target }) after
-    (landed_is (is_aligned target) (record s { pc = target }) after e)
-branch_keeps s after false target e = let same : moved_on s ≡ after = cc in memory_same (moved_on s) after same
+branch_keeps : (s after : State) (taken : Bool) (target : ℕ) → branched s taken target ≡ Retired after → length after.memory ≡ length s.memory
+branch_keeps s after true target e = landed_keeps (is_aligned target) (record s { pc = target }) after e
+branch_keeps s after false target e = retired_keeps (moved_on s) after e
 
 load_keeps : (s after : State) (b : Bool) (d address n : ℕ) (signed : Bool)
     → loaded s b d address n signed ≡ Retired after → length after.memory ≡ length s.memory
-load_keeps s after true d address n signed e = loaded_is s after _ e
-  where
-    loaded_is : (s after x : State) → Retired x ≡ Retired after → length after.memory ≡ length x.memory
-    loaded_is s after x e = let same : x ≡ after = cc in memory_same x after same
+load_keeps s after true d address n signed e = retired_keeps _ after e
 load_keeps s after false d address n signed e = cc
 
 low_short : (n v : ℕ) → length (low_bytes n v) ≤ n
@@ -60,30 +55,21 @@ store_keeps s after true address n v w e =
     let above = leb-true s.base address (and_parts (nat_le s.base address)
     (nat_le (address + n) (s.base + length s.memory)) w).0 in
     let few = low_short n v in
-    let there : length (overwritten s.memory (address - s.base) (low_bytes n v))
-    ≡ length s.memory = length-overwritten s.memory (address - s.base) (low_bytes n v) (omega arith) in
-    kept s after _ e ∙ there
-  where
-    kept : (s after x : State) → Retired x ≡ Retired after → length after.memory ≡ length x.memory
-    kept s after x e = let same : x ≡ after = cc in memory_same x after same
+    retired_keeps _ after e ∙ length-overwritten s.memory (address - s.base) (low_bytes n v) (omega arith)
 store_keeps s after false address n v w e = cc
 
 execute_keeps : (s after : State) (e : Effect) → execute s e ≡ Retired after → length after.memory ≡ length s.memory
-execute_keeps s after (SetRegister d v) h = let same : moved_on_with s d v
-    ≡ after = cc in memory_same (moved_on_with s d v) after same
-execute_keeps s after (Jump d target) h = memory_same (jumped s d target) after
-    (landed_is (is_aligned target) (jumped s d target) after h)
+execute_keeps s after (SetRegister d v) h = retired_keeps (moved_on_with s d v) after h
+execute_keeps s after (Jump d target) h = landed_keeps (is_aligned target) (jumped s d target) after h
 execute_keeps s after (Branch taken target) h = branch_keeps s after taken target h
 execute_keeps s after (Load d address n signed) h = load_keeps s after (in_window s address n) d address n signed h
 execute_keeps s after (Store address n v) h = store_keeps s after (in_window s address n) address n v refl h
-execute_keeps s after MoveOn h = let same : moved_on s ≡ after = cc in memory_same (moved_on s) after same
-execute_keeps s after EnvironmentCall h = cc
-execute_keeps s after Breakpoint h = cc
+execute_keeps s after MoveOn h = retired_keeps (moved_on s) after h
+execute_keeps s after e h = cc
 
 fetched_keeps : (s after : State) (f : Fetch) → outcome_of s f ≡ Retired after → length after.memory ≡ length s.memory
-fetched_keeps s after OutsideWindow h = cc
-fetched_keeps s after Illegal h = cc
 fetched_keeps s after (Fetched i) h = execute_keeps s after (effect_of s i) h
+fetched_keeps s after f h = cc
 
 -- a step that retires leaves a window of the same size
 pub step_keeps : (s after : State) → next s ≡ Retired after → length after.memory ≡ length s.memory
@@ -109,7 +95,7 @@ start_by im pages s true laid holds e =
     (list_all (λ (x : LoadedSegment). nat_le (x.place + x.size) past) im.segments) holds).1 in
     let room = have_room im.base past im.segments laid.placed ends in
     let memory = laid_out im.base (replicate (pages * 4096) 0) im.segments in
-    memory_same (start_in im pages memory) s (same_Some (start_in im pages memory) s e)
+    ap (λ (x : State). length x.memory) (sym (same_Some (start_in im pages memory) s e))
     ∙ laid_length im.base (pages * 4096) (replicate (pages * 4096) 0) im.segments (length-replicate (pages * 4096) 0)
     (recursion_from_All (HasRoom im.base past) im.segments room)
 start_by im pages s false laid holds e = cc

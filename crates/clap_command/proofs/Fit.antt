@@ -5,28 +5,26 @@ use Rattle.std.specs.List.{list_all, list_any, find, fold}
 use Rattle.std.specs.Option.{option_map_or}
 use Rattle.std.specs.Str.{bytes_eq, chars}
 use Rattle.std.proofs.lemmas.Slice.Eq.{bytes_eq-Decides}
-use Rattle.std.proofs.lemmas.Bool.{and_parts}
+use Rattle.std.proofs.lemmas.Bool.{and_from, and_parts, or_left, or_right}
+use Rattle.std.proofs.lemmas.List.Folds.{list_all-append}
 use Rattle.clap.specs.declared.builder.ArgAction.{ArgAction}
-use Rattle.clap.specs.declared.builder.ArgAction.TheVariants.{Set, Append, SetTrue, SetFalse, Count, Help, HelpShort, HelpLong, Version}
+use Rattle.clap.specs.declared.builder.ArgAction.TheVariants.{Set}
 use Rattle.clap.specs.declared.builder.value_parser.Reading.{Reading}
-use Rattle.clap.specs.declared.builder.value_parser.Reading.TheVariants.{AsWritten, WithoutMinus, Boolish, Falsey}
+use Rattle.clap.specs.declared.builder.value_parser.Reading.TheVariants.{AsWritten}
 use Rattle.clap.specs.declared.parser.matches.ValueSource.{ValueSource}
 use Rattle.clap.specs.declared.parser.matches.ValueSource.TheVariants.{CommandLine, DefaultValue}
 use Rattle.clap.specs.Lexer.{long_of, short_of}
 use Rattle.clap.specs.Facts.{unwrap_or_range}
-use Rattle.clap.specs.Walk.{Held, Names, Outcome, Row, Rule, Step, Text, Waiting, Walk, done, waits, plain, refused, idle, option, positional, value, next, trailing, subcommand, action_of, after_flag, after_step, arg_by_id, arg_by_index, arg_by_long, arg_by_short, at_row, attached_value, bundle_met, bundle_step, default_rows, flag_met, has_row, is_pending, long_met, long_or_other, more_values, most_values, nothing_held, option_met, option_word, plain_word, positional_held, reacted, reading_by, rows_after, settled, settled_rows, short_met, short_or_plain, subcommand_met, subcommand_or_other, takes_several, takes_values, to_positional, used, used_as, used_by_id, values_or_missing, walk, walk_from, walked, walked_from, with_default, with_values, without, word_met}
+use Rattle.clap.specs.Walk.{Held, Names, Outcome, Row, Rule, Step, Text, Waiting, Walk, done, waits, plain, option, value, trailing, action_of, after_flag, after_step, arg_by_id, arg_by_index, arg_by_long, arg_by_short, at_row, attached_value, bundle_met, bundle_step, default_rows, flag_met, has_row, is_pending, long_met, long_or_other, more_values, most_values, nothing_held, option_met, option_word, plain_word, positional_held, reacted, reading_by, rows_after, settled, settled_rows, short_met, short_or_plain, subcommand_met, subcommand_or_other, takes_several, takes_values, to_positional, used, used_as, used_by_id, values_or_missing, walk, walk_from, walked, walked_from, with_default, with_values, without, word_met}
 use Rattle.clap.specs.Simple.{Shape}
 use Rattle.clap.specs.Takes.{action_passes, bundle_passes, bundle_step_passes, flag_word_passes, flags_pass, level_passes, long_passes, option_passes, other_passes, positional_passes, react_passes, settle_passes, short_passes, step_passes, use_passes, walk_passes, word_passes}
 use Rattle.clap_command.specs.Plain.{fits_values, is_plain_action, is_plain_rule, no_values}
-use Rattle.clap_command.proofs.Bools.{and_true, left_true, right_true}
 
 -- ---- what is kept
 
 abbrev pub reads_as_written : Reading → Bool
 reads_as_written AsWritten = true
-reads_as_written WithoutMinus = false
-reads_as_written Boolish = false
-reads_as_written Falsey = false
+reads_as_written how = false
 
 -- the values fit the argument, and are read as written where the argument's are
 abbrev pub fits : Rule → List Text → Reading → Bool
@@ -53,9 +51,9 @@ each_kept P (a ∷ c) keeps all =
     let p = and_parts _ _ all in (
       record {
         plain = p.0;
-        keeps = λ r same fit. keeps r (left_true (bytes_eq a.id r.id && fits a r.values r.reading) _ (and_true _ _ same fit));
+        keeps = λ r same fit. keeps r (or_left (bytes_eq a.id r.id && fits a r.values r.reading) _ (and_from _ _ same fit));
       },
-      each_kept P c (λ r fit. keeps r (right_true (bytes_eq a.id r.id && fits a r.values r.reading) _ fit)) p.1,
+      each_kept P c (λ r fit. keeps r (or_right (bytes_eq a.id r.id && fits a r.values r.reading) _ fit)) p.1,
     )
 
 found_kept : (Q : Rule → Type 0) (p : Rule → Bool) (c : List Rule) → Each Q c → (a : Rule) → find p c ≡ Some a → Q a
@@ -73,13 +71,10 @@ text_is_itself t = (bytes_eq-Decides t t).1 refl
 
 same_reading : (how : Reading) → (reads_as_written how || not (reads_as_written how)) ≡ true
 same_reading AsWritten = refl
-same_reading WithoutMinus = refl
-same_reading Boolish = refl
-same_reading Falsey = refl
+same_reading how = refl
 
 all_kept_more : (P : Row → Bool) (rows : List Row) (r : Row) → list_all P rows ≡ true → P r ≡ true → list_all P (rows ++ r ∷ []) ≡ true
-all_kept_more P [] r all one = and_true _ _ one refl
-all_kept_more P (x ∷ rows) r all one = let p = and_parts _ _ all in and_true _ _ p.0 (all_kept_more P rows r p.1 one)
+all_kept_more P rows r all one = list_all-append P rows (r ∷ []) ∙ and_from _ _ all (and_from _ _ one refl)
 
 -- a row of an id that has none joins at the end
 pub at_new_row : (id : Text) (change : Row → List Row) (missing : List Row) (rows : List Row) → has_row id rows ≡ false → at_row id change missing rows ≡ rows ++ missing
@@ -103,7 +98,7 @@ new_row_kept : (P : Row → Bool) (a : Rule) (source : ValueSource) (values : Li
 new_row_kept P a source values rows kept none fit all =
     let r : Row = record { id = a.id; values = values; count = None; source = Some source; reading = reading_by a } in
     ap (list_all P) (at_new_row a.id (more_values source values) (r ∷ []) rows none)
-    ∙ all_kept_more P rows r all (kept.keeps r (text_is_itself a.id) (and_true _ _ fit (same_reading (reading_by a))))
+    ∙ all_kept_more P rows r all (kept.keeps r (text_is_itself a.id) (and_from _ _ fit (same_reading (reading_by a))))
 
 same_values : (missing values : List Text) (a : Rule) → a.missing ≡ missing → no_values missing ≡ true → values_or_missing a values ≡ values
 same_values [] [] a is e = is
@@ -122,15 +117,8 @@ used_kept_as P Set again a values rows kept off action least most pass all =
     let p = and_parts _ _ pass in
     let none = not_again (has_row a.id rows) again off p.0 in
     ap (λ rest. list_all P (with_values a.id (reading_by a) CommandLine values rest)) (without_none a.id rows none)
-    ∙ new_row_kept P a CommandLine values rows kept none (and_true _ _ least (and_true _ _ most p.1)) all
-used_kept_as P Append again a values rows kept off action least most pass all = cc
-used_kept_as P SetTrue again a values rows kept off action least most pass all = cc
-used_kept_as P SetFalse again a values rows kept off action least most pass all = cc
-used_kept_as P Count again a values rows kept off action least most pass all = cc
-used_kept_as P Help again a values rows kept off action least most pass all = cc
-used_kept_as P HelpShort again a values rows kept off action least most pass all = cc
-used_kept_as P HelpLong again a values rows kept off action least most pass all = cc
-used_kept_as P Version again a values rows kept off action least most pass all = cc
+    ∙ new_row_kept P a CommandLine values rows kept none (and_from _ _ least (and_from _ _ most p.1)) all
+used_kept_as P x again a values rows kept off action least most pass all = cc
 
 used_kept : (P : Row → Bool) (again : Bool) (a : Rule) (values : List Text) (rows : List Row) → Kept P a → again ≡ false
     → use_passes again a values rows ≡ true → list_all P rows ≡ true → list_all P (used a values rows) ≡ true
@@ -217,15 +205,13 @@ module _ (P : Row → Bool) (c : List Rule) (each : Each (Kept P) c) (again : Bo
   option_word_rows (Some a) id word h = refl
 
   plain_rows : (waiting : Waiting) (word : Text) (h : Held) → (plain_word c waiting word h).0.rows ≡ h.rows
-  plain_rows idle word h = refl
   plain_rows (option id) word h = option_word_rows (arg_by_id c id) id word h
-  plain_rows positional word h = refl
+  plain_rows waiting word h = refl
 
   flag_rows : (waiting : Waiting) (word : Text) (h : Held) (met : Outcome) → (after_flag c waiting word h met).0.rows ≡ h.rows
   flag_rows waiting word h done = refl
   flag_rows waiting word h (waits id) = refl
-  flag_rows waiting word h plain = plain_rows waiting word h
-  flag_rows waiting word h refused = plain_rows waiting word h
+  flag_rows waiting word h met = plain_rows waiting word h
 
   short_word_kept : (waiting : Waiting) (word : Text) (flags : Option Text) (h : Held) → option_map_or (λ f. bundle_passes c again f h) flags true ≡ true
       → list_all P h.rows ≡ true → list_all P (short_or_plain c waiting word flags h).0.rows ≡ true
@@ -255,10 +241,8 @@ module _ (P : Row → Bool) (c : List Rule) (each : Each (Kept P) c) (again : Bo
 module _ (P : Row → Bool) (s : Shape) (names : Names) (each : Each (Kept P) s.rules) (off : s.args_override_self ≡ false) where
   step_kept : (word : Text) (w : Walk) (h : Held) (step : Step) → step_passes s w.position h step ≡ true → list_all P h.rows ≡ true
       → list_all P (after_step s.rules word w h step).held.rows ≡ true
-  step_kept word w h (next waiting) pass all = all
-  step_kept word w h (trailing position) pass all = all
-  step_kept word w h (subcommand name) pass all = all
   step_kept word w h value pass all = at_positional_kept P s.rules each s.args_override_self off (arg_by_index s.rules w.position) word w h pass all
+  step_kept word w h step pass all = all
 
   met_kept : (met : Option Text) (waiting : Waiting) (position : ℕ) (word : Text) (h : Held) → other_passes s met word h ≡ true → list_all P h.rows ≡ true
       → list_all P (subcommand_or_other s.rules met waiting position word h).0.rows ≡ true

@@ -5,7 +5,7 @@ use Rattle.std.specs.Option.{option_map_or}
 use Rattle.std.specs.Str.{bytes_eq}
 use Rattle.std.proofs.lemmas.Bool.{and_parts}
 use Rattle.clap.specs.Lexer.{long_of, short_of}
-use Rattle.clap.specs.Walk.{Held, Names, Outcome, Rule, Step, Text, Waiting, Walk, done, waits, plain, refused, idle, option, positional, value, next, trailing, subcommand, after_flag, after_step, arg_by_index, long_or_other, plain_word, short_or_plain, subcommand_met, subcommand_or_other, to_positional, walked, walked_from, word_met}
+use Rattle.clap.specs.Walk.{Held, Names, Outcome, Rule, Step, Text, Waiting, Walk, done, waits, idle, value, trailing, subcommand, after_flag, after_step, arg_by_index, long_or_other, plain_word, short_or_plain, subcommand_met, subcommand_or_other, to_positional, walked, walked_from, word_met}
 use Rattle.clap.specs.Simple.{Shape}
 use Rattle.clap.specs.Takes.{other_passes, step_passes, walk_passes, word_passes}
 use Rattle.clap_command.proofs.Bools.{or_false}
@@ -16,21 +16,17 @@ no_help stop = option_map_or (λ p. not (bytes_eq p.0 (codes "help"))) stop true
 
 -- the word names no subcommand
 abbrev names_none : Step → Bool
-names_none (next waiting) = true
-names_none (trailing position) = true
 names_none (subcommand name) = false
-names_none value = true
+names_none step = true
 
 plain_names_none : (c : List Rule) (waiting : Waiting) (word : Text) (h : Held) → names_none (plain_word c waiting word h).1 ≡ true
 plain_names_none c idle word h = refl
-plain_names_none c (option id) word h = refl
-plain_names_none c positional word h = refl
+plain_names_none c waiting word h = refl
 
 flag_names_none : (c : List Rule) (waiting : Waiting) (word : Text) (h : Held) (met : Outcome) → names_none (after_flag c waiting word h met).1 ≡ true
 flag_names_none c waiting word h done = refl
 flag_names_none c waiting word h (waits id) = refl
-flag_names_none c waiting word h plain = plain_names_none c waiting word h
-flag_names_none c waiting word h refused = plain_names_none c waiting word h
+flag_names_none c waiting word h met = plain_names_none c waiting word h
 
 short_names_none : (c : List Rule) (waiting : Waiting) (word : Text) (flags : Option Text) (h : Held) → names_none (short_or_plain c waiting word flags h).1 ≡ true
 short_names_none c waiting word None h = plain_names_none c waiting word h
@@ -52,10 +48,9 @@ at_positional c None word w h e = e
 at_positional c (Some a) word w h e = refl
 
 after_other : (c : List Rule) (word : Text) (w : Walk) (h : Held) (step : Step) → names_none step ≡ true → no_help w.stopped ≡ true → no_help (after_step c word w h step).stopped ≡ true
-after_other c word w h (next waiting) n e = e
-after_other c word w h (trailing position) n e = e
-after_other c word w h (subcommand name) n e = cc
 after_other c word w h value n e = at_positional c (arg_by_index c w.position) word w h e
+after_other c word w h (subcommand name) n e = cc
+after_other c word w h step n e = e
 
 after_met : (s : Shape) (met : Option Text) (word : Text) (w : Walk) → s.disable_help_subcommand ≡ false → other_passes s met word w.held ≡ true → no_help w.stopped ≡ true
     → let step = subcommand_or_other s.rules met w.waiting w.position word w.held in no_help (after_step s.rules word w step.0 step.1).stopped ≡ true

@@ -5,19 +5,18 @@ use Rattle.std.specs.List.{list_all, list_any, find}
 use Rattle.std.specs.Option.{option_map_or}
 use Rattle.std.specs.Str.{bytes_eq, chars}
 use Rattle.std.proofs.lemmas.Bool.Decides.{nat_tests}
-use Rattle.std.proofs.lemmas.Bool.{and_parts, or_parts}
+use Rattle.std.proofs.lemmas.Bool.{and_from, and_parts, or_parts}
 use Rattle.clap.specs.declared.error.ErrorKind.{ErrorKind}
 use Rattle.clap.specs.declared.builder.ArgAction.{ArgAction}
-use Rattle.clap.specs.declared.builder.ArgAction.TheVariants.{Set, Append, SetTrue, SetFalse, Count, Help, HelpShort, HelpLong, Version}
+use Rattle.clap.specs.declared.builder.ArgAction.TheVariants.{Set, Append, SetTrue, SetFalse, Count}
 use Rattle.clap.specs.Lexer.{long_of, short_of}
 use Rattle.clap.specs.Facts.{parser_of_value, unwrap_or_range}
-use Rattle.clap.specs.Walk.{Held, Names, Row, Rule, Step, Text, Waiting, Walk, value, next, trailing, subcommand, action_of, arg_by_id, arg_by_index, arg_by_long, arg_by_short, attached_value, most_values, reacted, settled, takes_values, values_or_missing, walked, word_met, subcommand_met, walk, walk_from, finished, nothing_held, answers_to}
+use Rattle.clap.specs.Walk.{Held, Names, Row, Rule, Step, Text, Waiting, Walk, value, action_of, arg_by_id, arg_by_index, arg_by_long, arg_by_short, attached_value, most_values, reacted, settled, takes_values, values_or_missing, walked, word_met, subcommand_met, walk, walk_from, finished, nothing_held, answers_to}
 use Rattle.clap.specs.Simple.{App, Shape, built, argument_words, is_simple, label_of, names_of}
 use Rattle.clap.specs.Takes.{value_passes, values_pass, count_passes, set_passes, action_passes, use_passes, settle_passes, react_passes, option_passes, long_passes, short_passes, bundle_step_passes, flags_pass, bundle_passes, flag_word_passes, other_passes, word_passes, positional_passes, step_passes, turn_passes, walk_passes, is_given, level_passes, entered_passes, built_takes, takes}
 use Rattle.clap.specs.Kinds.{Kinds, or_else, range_kinds, value_kinds, check_kinds}
 use Rattle.clap.specs.Faults.{values_fault, count_fault, set_fault, action_fault, use_fault, settle_fault, react_fault, option_fault, long_fault, short_fault, bundle_step_fault, flags_fault, bundle_fault, flag_word_fault, other_fault, word_fault, positional_fault, stray_fault, step_fault, turn_fault, walk_fault, level_fault, entered_fault, built_fault, fault_of, is_simple_and_free}
 use Rattle.clap_command.specs.Plain.{is_sound, is_plain_command}
-use Rattle.clap_command.proofs.Bools.{and_true}
 
 both_nil : (a b : Kinds) → or_else a b ≡ [] → (a ≡ []) × (b ≡ [])
 both_nil [] b e = (refl, e)
@@ -44,23 +43,22 @@ or_rest true x p f e = refl
 or_rest false x p f e = f e
 
 neither : (a b : Bool) (k : ErrorKind) (ks : Kinds) → (if a && not b then k ∷ ks else []) ≡ [] → (not a || b) ≡ true
-neither true true k ks e = refl
 neither true false k ks e = cc
-neither false b k ks e = refl
+neither a b k ks e = refl
 
 value_ok : (a : Rule) (v : Text) → value_kinds a.ignore_case (parser_of_value a.parser) v ≡ [] → value_passes a v ≡ true
 value_ok a v e = nil_if _ _ e
 
 values_ok : (a : Rule) (vs : List Text) → values_fault a vs ≡ [] → values_pass a vs ≡ true
 values_ok a [] e = refl
-values_ok a (v ∷ vs) e = let p = both_nil _ _ e in and_true _ _ (value_ok a v p.0) (values_ok a vs p.1)
+values_ok a (v ∷ vs) e = let p = both_nil _ _ e in and_from _ _ (value_ok a v p.0) (values_ok a vs p.1)
 
 count_ok : (a : Rule) (vs : List Text) (rows : List Row) → count_fault a vs rows ≡ [] → count_passes a vs rows ≡ true
 count_ok a [] rows e = value_ok a _ e
 count_ok a (v ∷ vs) rows e = values_ok a (v ∷ vs) e
 
 set_ok : (again : Bool) (a : Rule) (vs : List Text) (rows : List Row) → set_fault again a vs rows ≡ [] → set_passes again a vs rows ≡ true
-set_ok again a vs rows e = let p = both_nil _ _ e in and_true _ _ (neither _ again _ [] p.0) (values_ok a vs p.1)
+set_ok again a vs rows e = let p = both_nil _ _ e in and_from _ _ (neither _ again _ [] p.0) (values_ok a vs p.1)
 
 action_ok : (x : ArgAction) (again : Bool) (a : Rule) (vs : List Text) (rows : List Row) → action_fault x again a vs rows ≡ [] → action_passes x again a vs rows ≡ true
 action_ok Set again a vs rows e = set_ok again a vs rows e
@@ -68,10 +66,7 @@ action_ok SetTrue again a vs rows e = set_ok again a vs rows e
 action_ok SetFalse again a vs rows e = set_ok again a vs rows e
 action_ok Append again a vs rows e = values_ok a vs e
 action_ok Count again a vs rows e = count_ok a vs rows e
-action_ok Help again a vs rows e = cc
-action_ok HelpShort again a vs rows e = cc
-action_ok HelpLong again a vs rows e = cc
-action_ok Version again a vs rows e = cc
+action_ok x again a vs rows e = cc
 
 range_ok : (least most n : ℕ) → range_kinds least most n ≡ [] → (nat_le least n ≡ true) × (nat_le n most ≡ true)
 range_ok least most n e = (grind (arith, nat_tests), grind (arith, nat_tests))
@@ -80,13 +75,13 @@ use_ok : (again : Bool) (a : Rule) (vs : List Text) (rows : List Row) → use_fa
 use_ok again a vs rows e =
     let p = both_nil _ _ e in
     let r = range_ok (unwrap_or_range a.range).start_inclusive (most_values a) (length vs) p.0 in
-    and_true _ _ r.0 (and_true _ _ r.1 (action_ok (action_of a) again a (values_or_missing a vs) rows p.1))
+    and_from _ _ r.0 (and_from _ _ r.1 (action_ok (action_of a) again a (values_or_missing a vs) rows p.1))
 
 settle_ok : (c : List Rule) (again : Bool) (h : Held) → settle_fault c again h ≡ [] → settle_passes c again h ≡ true
 settle_ok c again h e = at_some h.pending _ _ (λ p q. at_some (arg_by_id c p.0) _ _ (λ a r. use_ok again a p.1 h.rows r) q) e
 
 react_ok : (c : List Rule) (again : Bool) (a : Rule) (vs : List Text) (h : Held) → react_fault c again a vs h ≡ [] → react_passes c again a vs h ≡ true
-react_ok c again a vs h e = let p = both_nil _ _ e in and_true _ _ (settle_ok c again h p.0) (use_ok again a vs (settled c h).rows p.1)
+react_ok c again a vs h e = let p = both_nil _ _ e in and_from _ _ (settle_ok c again h p.0) (use_ok again a vs (settled c h).rows p.1)
 
 option_ok : (c : List Rule) (again : Bool) (a : Rule) (v : Option Text) (h : Held) → option_fault c again a v h ≡ [] → option_passes c again a v h ≡ true
 option_ok c again a (Some v) h e = react_ok c again a (v ∷ []) h e
@@ -100,7 +95,7 @@ short_ok : (c : List Rule) (again : Bool) (a : Option Rule) (rest : Text) (h : H
     → ((g : Held) → nf g ≡ [] → np g ≡ true) → short_fault c again a rest h nf ≡ [] → short_passes c again a rest h np ≡ true
 short_ok c again None rest h nf np f e = cc
 short_ok c again (Some a) rest h nf np f e = choose (takes_values a) _ _ _ _ (option_ok c again a (attached_value rest) h)
-    (λ q. let p = both_nil _ _ q in and_true _ _ (react_ok c again a [] h p.0) (f (reacted c a [] h) p.1)) e
+    (λ q. let p = both_nil _ _ q in and_from _ _ (react_ok c again a [] h p.0) (f (reacted c a [] h) p.1)) e
 
 bundle_step_ok : (c : List Rule) (again : Bool) (x : Option ℕ) (flags : Text) (skip : ℕ) (h : Held) (nf : Text → ℕ → Held → Kinds) (np : Text → ℕ → Held → Bool)
     → ((t : Text) (k : ℕ) (g : Held) → nf t k g ≡ [] → np t k g ≡ true) → bundle_step_fault c again x flags skip h nf ≡ [] → bundle_step_passes c again x flags skip h np ≡ true
@@ -143,28 +138,24 @@ at_arg s h (Some a) e = positional_ok s.rules s.args_override_self a h e
 
 step_ok : (s : Shape) (position : ℕ) (h : Held) (step : Step) → step_fault s position h step ≡ [] → step_passes s position h step ≡ true
 step_ok s position h value e = at_arg s h (arg_by_index s.rules position) e
-step_ok s position h (next w) e = refl
-step_ok s position h (trailing w) e = refl
-step_ok s position h (subcommand w) e = refl
+step_ok s position h step e = refl
 
 turn_ok : (s : Shape) (names : Names) (w : Walk) (word : Text) → turn_fault s names w word ≡ [] → turn_passes s names w word ≡ true
 turn_ok s names w word e =
     let met = word_met s.rules names w.is_trailing w.waiting w.position word w.held in
     or_rest (is_some w.stopped) _ _ (λ q. let p = both_nil _ _ q in
-    and_true _ _ (word_ok s names w.is_trailing w.waiting word w.held p.0) (step_ok s w.position met.0 met.1 p.1)) e
+    and_from _ _ (word_ok s names w.is_trailing w.waiting word w.held p.0) (step_ok s w.position met.0 met.1 p.1)) e
 
 walk_ok : (s : Shape) (names : Names) (w : Walk) (words : List Text) → walk_fault s names w words ≡ [] → walk_passes s names w words ≡ true
 unfolding walk_fault walk_passes
 walk_ok s names w [] e = refl
-walk_ok s names w (word ∷ rest) e = let p = both_nil _ _ e in and_true _ _ (turn_ok s names w word p.0) (walk_ok s names (walked s.rules names w word) rest p.1)
+walk_ok s names w (word ∷ rest) e = let p = both_nil _ _ e in and_from _ _ (turn_ok s names w word p.0) (walk_ok s names (walked s.rules names w word) rest p.1)
 
 -- ---- after the walk
 
 none_of : (x y z : Bool) → check_kinds x y z ≡ [] → (x ≡ false) × (y ≡ false) × (z ≡ false)
-none_of true y z e = cc
-none_of false true z e = cc
-none_of false false true e = cc
 none_of false false false e = (refl, refl, refl)
+none_of x y z e = cc
 
 help_given : (has wants any : Bool) → (not has && (wants && not any)) ≡ false → (not wants || (has || any)) ≡ true
 help_given has false any e = refl
@@ -182,16 +173,15 @@ args_given true any all f e = refl
 args_given false any all f e = f e
 
 is_there : (required given : Bool) → (required && not given) ≡ false → (not required || given) ≡ true
-is_there true true e = refl
 is_there true false e = cc
-is_there false given e = refl
+is_there required given e = refl
 
 all_there : (rules : List Rule) (rows : List Row) → list_any (λ a. a.required && not (is_given a.id rows)) rules ≡ false
     → list_all (λ a. not a.required || is_given a.id rows) rules ≡ true
 all_there [] rows e = refl
 all_there (a ∷ rules) rows e =
     let p = or_parts (a.required && not (is_given a.id rows)) _ e in
-    and_true _ _ (is_there a.required (is_given a.id rows) p.0) (all_there rules rows p.1)
+    and_from _ _ (is_there a.required (is_given a.id rows) p.0) (all_there rules rows p.1)
 
 level_ok : (s : Shape) (names : Names) (h : Held) (words : List Text) (has : Bool) (below : Kinds) → is_sound s ≡ true → level_fault s names h words has below ≡ []
     → (below ≡ []) × (level_passes s names h words has ≡ true)
@@ -205,8 +195,8 @@ level_ok s names h words has below sound e =
     let n = none_of _ _ _ d.1 in
     let o = and_parts _ _ sound in (
       b.0,
-      and_true _ _ (walk_ok s names (walk_from h) words w.0) (and_true _ _ (settle_ok s.rules s.args_override_self end t.0) (and_true _ _ o.0
-          (and_true _ _ (help_given has s.arg_required_else_help _ n.0) (and_true _ _ (subcommand_given has s.subcommand_required n.1) (and_true _ _ o.1
+      and_from _ _ (walk_ok s names (walk_from h) words w.0) (and_from _ _ (settle_ok s.rules s.args_override_self end t.0) (and_from _ _ o.0
+          (and_from _ _ (help_given has s.arg_required_else_help _ n.0) (and_from _ _ (subcommand_given has s.subcommand_required n.1) (and_from _ _ o.1
           (args_given (s.subcommand_negates_reqs && has) _ _ (all_there s.rules rows) n.2)))))),
     )
 
@@ -227,7 +217,7 @@ entered_ok a stop sound e = at_some stop _ _ (λ p q. found_ok (λ s. answers_to
 built_ok : (a : App) (h : Held) (words : List Text) → is_sound a.top ≡ true → list_all is_sound a.subs ≡ true → built_fault a h words ≡ [] → built_takes a h words ≡ true
 built_ok a h words top subs e =
     let p = level_ok a.top (names_of a) h words _ _ top e in
-    and_true _ _ (entered_ok a _ subs p.0) p.1
+    and_from _ _ (entered_ok a _ subs p.0) p.1
 
 -- Words that have no fault are taken.
 pub takes_of_no_fault : (a : App) (words : List Text) → is_plain_command a ≡ true → fault_of a words ≡ [] → takes a words ≡ true
@@ -235,4 +225,4 @@ takes_of_no_fault a words plain e =
     let p = and_parts (is_simple_and_free a) _ plain in
     let q = and_parts (is_sound (built a).top) _ p.1 in
     let r = and_parts (list_all is_sound (built a).subs) _ q.1 in
-    and_true (is_simple a) _ (and_parts (is_simple a) _ p.0).0 (built_ok (built a) nothing_held (argument_words a words) q.0 r.0 e)
+    and_from (is_simple a) _ (and_parts (is_simple a) _ p.0).0 (built_ok (built a) nothing_held (argument_words a words) q.0 r.0 e)

@@ -5,9 +5,9 @@ use Rattle.std.proofs.Common.{◌≡◌, ◌∙◌, ◌≤◌, ap, sym, subst, r
 use Rattle.std.specs.List.{All, list_all, list_any, find, fold}
 use Rattle.std.specs.Option.{option_map_or}
 use Rattle.std.specs.Str.{bytes_eq}
-use Rattle.std.proofs.lemmas.Bool.Decides.{nat_tests}
 use Rattle.std.proofs.lemmas.Slice.Eq.{bytes_eq-Decides}
-use Rattle.std.proofs.lemmas.Bool.{and_parts, not-true}
+use Rattle.std.proofs.lemmas.Bool.{and_parts, leb-true, not-true, or_left, or_right}
+use Rattle.std.proofs.lemmas.List.Folds.{list_any-append}
 use Rattle.std.proofs.lemmas.List.Elements.{All-nil, All-cons, All-weaker, All-map}
 use Rattle.clap.specs.Words.{IsUnsignedIn, Row, Text, one_of, read_as}
 use Rattle.clap.specs.Facts.{explicit_source, parser_of_value, unwrap_or_range}
@@ -17,35 +17,29 @@ use Rattle.clap.specs.Walk.{Rule, default_rows, has_row, more_values, most_value
 use Rattle.clap.specs.Simple.{Shape}
 use Rattle.clap.specs.Takes.{default_passes, is_given, is_valid, level_passes, settle_passes, values_pass, walk_passes}
 use Rattle.clap.specs.declared.builder.value_parser.Reading.{Reading}
-use Rattle.clap.specs.declared.builder.value_parser.Reading.TheVariants.{AsWritten, WithoutMinus, Boolish, Falsey}
+use Rattle.clap.specs.declared.builder.value_parser.Reading.TheVariants.{AsWritten}
 use Rattle.clap.specs.declared.builder.value_parser.ValueParser.TheVariants.{Unsigned}
 use Rattle.clap.specs.declared.parser.matches.ValueSource.TheVariants.{DefaultValue}
 use Rattle.clap.proofs.ValueTestLemmas.{accepts-Accepts}
 use Rattle.clap_command.specs.Values.{numeral_of, number_in, number_of, numbers_of, optional_number_of, values_of}
 use Rattle.clap_command.specs.Plain.{is_plain_subcommand, no_values}
-use Rattle.clap_command.proofs.Bools.{left_true, or_false, right_true}
+use Rattle.clap_command.proofs.Bools.{or_false}
 use Rattle.clap_command.proofs.Fit.{at_new_row, fits, reads_as_written, row_fits, rows_fit, text_is_itself}
 
 -- ---- which rows are there
 
 any_more : (p : Row → Bool) (rows more : List Row) → list_any p more ≡ true → list_any p (rows ++ more) ≡ true
-any_more p [] more e = e
-any_more p (r ∷ rows) more e = right_true (p r) _ (any_more p rows more e)
+any_more p rows more e = list_any-append p rows more ∙ or_right (list_any p rows) (list_any p more) e
 
 any_before : (p : Row → Bool) (rows more : List Row) → list_any p rows ≡ true → list_any p (rows ++ more) ≡ true
-any_before p [] more e = cc
-any_before p (r ∷ rows) more e =
-    (elim (p r) as (λ b. (b || list_any p rows) ≡ true → (b || list_any p (rows ++ more)) ≡ true) [
-      | true ↦ λ q. refl
-      | false ↦ λ q. any_before p rows more q
-    ]) e
+any_before p rows more e = list_any-append p rows more ∙ or_left (list_any p rows) (list_any p more) e
 
 default_there : (id : Text) (a : Rule) (values : List Text) (rows : List Row) → has_row a.id rows ≡ false → no_values values ≡ false → a.id ≡ id
     → has_row id (default_rows a.id (reading_by a) values rows) ≡ true
 default_there id a [] rows none given same = cc
 default_there id a (v ∷ vs) rows none given same =
     ap (has_row id) (at_new_row a.id (more_values DefaultValue (v ∷ vs)) _ rows none)
-    ∙ any_more (λ r. bytes_eq r.id id) rows _ (left_true _ false (ap (λ t. bytes_eq t id) same ∙ text_is_itself id))
+    ∙ any_more (λ r. bytes_eq r.id id) rows _ (or_left _ false (ap (λ t. bytes_eq t id) same ∙ text_is_itself id))
 
 default_stays : (id : Text) (a : Rule) (values : List Text) (rows : List Row) → has_row a.id rows ≡ false → has_row id rows ≡ true
     → has_row id (default_rows a.id (reading_by a) values rows) ≡ true
@@ -123,9 +117,7 @@ read_text values how = unwrap_or (first_text values how) []
 
 as_written : (how : Reading) (v : Text) (Q : Text → Type 0) → (reads_as_written how || false) ≡ true → Q v → Q (read_as how v)
 as_written AsWritten v Q e q = q
-as_written WithoutMinus v Q e q = cc
-as_written Boolish v Q e q = cc
-as_written Falsey v Q e q = cc
+as_written how v Q e q = cc
 
 -- one value, of a number in a range, is read as written
 numeral : (a : Rule) (least most : ℕ) (values : List Text) (how : Reading) → (unwrap_or_range a.range).start_inclusive ≡ 1
@@ -187,18 +179,15 @@ enough_values c id least rows of has all =
     of_found c id (λ values how. least ≤ length values) (λ o. least ≤ length (unwrap_or (option_map (λ r. r.values) o) []))
     of (λ r q. q) rows (λ none. let bad : false ≡ true = sym none ∙ has in cc) all
 
-below : (n most : ℕ) → nat_le n most ≡ true → n ≤ most
-below n most e = grind (arith, nat_tests)
-
 fits_most : (a : Rule) (values : List Text) (how : Reading) (most : ℕ) → most_values a ≡ most → fits a values how ≡ true → length values ≤ most
 fits_most a values how most is e =
     let p : nat_le (length values) (most_values a) ≡ true = (and_parts _ _ (and_parts _ _ (and_parts _ _ e).0).1).0 in
-    below (length values) most (subst (λ n. nat_le (length values) n ≡ true) is p)
+    leb-true (length values) most (subst (λ n. nat_le (length values) n ≡ true) is p)
 
 fits_least : (a : Rule) (values : List Text) (how : Reading) (least : ℕ) → (unwrap_or_range a.range).start_inclusive ≡ least → fits a values how ≡ true → least ≤ length values
 fits_least a values how least is e =
     let p : nat_le (unwrap_or_range a.range).start_inclusive (length values) ≡ true = (and_parts _ _ (and_parts _ _ e).0).0 in
-    below least (length values) (subst (λ n. nat_le n (length values) ≡ true) is p)
+    leb-true least (length values) (subst (λ n. nat_le n (length values) ≡ true) is p)
 
 -- ---- what is required
 
@@ -249,7 +238,7 @@ any-of_id p id (x ∷ c) =
     ]
 
 only_has : (p : Rule → Bool) (c : List Rule) (id : Text) (a : Rule) → Only c id a → p a ≡ true → list_any (λ x. bytes_eq x.id id && p x) c ≡ true
-only_has p c id a only has = any-of_id p id c ∙ ap (list_any p) only ∙ left_true (p a) false has
+only_has p c id a only has = any-of_id p id c ∙ ap (list_any p) only ∙ or_left (p a) false has
 
 has_only : (p : Rule → Bool) (c : List Rule) (id : Text) (a : Rule) → Only c id a → list_any (λ x. bytes_eq x.id id && p x) c ≡ true → p a ≡ true
 has_only p c id a only any = or_false (p a) false refl (sym (ap (list_any p) only) ∙ sym (any-of_id p id c) ∙ any)
@@ -262,7 +251,7 @@ pub record IsNumberIn (top least most : ℕ) (id : Text) (rows : List Row) : Typ
 
 number_is_in : (top least most : ℕ) (id : Text) (rows : List Row) → nat_le most top ≡ true → IsUnsignedIn least most (numeral_of id rows) → IsNumberIn top least most id rows
 number_is_in top least most id rows small is =
-    let few : most ≤ top = below most top small in
+    let few : most ≤ top = leb-true most top small in
     record { can_be_read = (is.0, is.1, omega arith, omega (arith, few, is.3)); at_least = is.2; at_most = is.3 }
 
 -- the same of an option, where it is given
@@ -310,7 +299,7 @@ module _ (s : Shape) (words : List Text) (plain : is_plain_subcommand s ≡ true
   pub optional-in_range : (id : Text) (a : Rule) (top least most : ℕ) → Only s.rules id a → (unwrap_or_range a.range).start_inclusive ≡ 1
       → a.parser ≡ Some (Unsigned least most) → nat_le most top ≡ true → IsOptionIn top least most id rows
   optional-in_range id a top least most only one parser small =
-      let read = option_read top least most (one_of id rows) (below most top small)
+      let read = option_read top least most (one_of id rows) (leb-true most top small)
       (number_if_there s.rules id least most rows (λ values how fit. optional_numeral a least most values how one parser (has_only (λ x. fits x values how) s.rules id a only fit))
       all_fit) in
       record { can_be_read = read.0; in_range = read.1 }
@@ -337,7 +326,7 @@ module _ (s : Shape) (words : List Text) (plain : is_plain_subcommand s ≡ true
   pub numbers-in_range : (id : Text) (a : Rule) (top least most : ℕ) → Only s.rules id a → a.parser ≡ Some (Unsigned least most) → nat_le most top ≡ true
       → AreNumbersIn top least most id rows
   numbers-in_range id a top least most only parser small =
-      let few : most ≤ top = below most top small in
+      let few : most ≤ top = leb-true most top small in
       let each = numbers_there s.rules id least most rows
       (λ values how fit. fits_numerals a values how least most parser (has_only (λ x. fits x values how) s.rules id a only fit)) all_fit in
       record {

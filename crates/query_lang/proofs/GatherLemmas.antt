@@ -1,63 +1,34 @@
 -- What was gathered of several queries, once none is left.
-use Rattle.std.proofs.Common.{◌≡◌, ℕ, suc, ◌+◌, ◌<◌, ◌≤◌, Bool, List, [], ◌∷◌, ◌++◌, length, drop, get_or, ap, sym, ◌∙◌, subst, arith}
-use Rattle.std.specs.Prelude.{◌&&◌, ◌||◌}
+use Rattle.std.proofs.Common.{◌≡◌, ℕ, ◌+◌, ◌<◌, ◌≤◌, List, ◌++◌, length, drop, get_or, ap, sym, ◌∙◌}
 use Rattle.std.specs.List.{flat_map}
-use Rattle.std.proofs.lemmas.List.{append-nil, append_assoc}
+use Rattle.std.proofs.lemmas.List.{append-nil, append_assoc, drop_more}
 use Rattle.std.proofs.lemmas.List.Concat.{flat_map-cons}
-use Rattle.std.proofs.lemmas.List.Elements.{All-append}
-use Rattle.std.proofs.lemmas.List.Folds.{list_any-append}
 use Rattle.std.proofs.Math.ListN.{drop_of_length-le}
-use Rattle.std.proofs.Math.Seq.{drop-cons}
 use Rattle.lists.specs.Sets.{set_of}
 use Rattle.flow_model.specs.declared.Rule.{Rule}
 use Rattle.flow_model.specs.declared.InnerSink.{InnerSink}
 use Rattle.flow_model.specs.Orders.{inner_cmp}
-use Rattle.flow_model.specs.Ranges.{IsLocation}
-use Rattle.report_model.specs.Query.{Choice, Query, Alike, AreLocated, chooses, is_channel, is_within}
+use Rattle.report_model.specs.Query.{Choice, Query, Alike, chooses}
 use Rattle.report_model.specs.Together.{together, first_rule}
 use Rattle.query_lang.specs.declared.chosen.Selection.{Selection}
 use Rattle.query_lang.specs.Choices.{SameChoices}
 use Rattle.query_lang.specs.Drafts.{choices_in, query_by}
+use Rattle.query_lang.proofs.ParseLemmas.{chosen_more}
 
 -- ---- one query more
 
-chosen_both : (xs ys : List Choice) (c o : ℕ) → chooses (xs ++ ys) c o ≡ (chooses xs c o || chooses ys c o)
-chosen_both xs ys c o = list_any-append (λ (x : Choice). is_channel x.channel c && is_within x.offsets o) xs ys
-
--- where nothing is gathered yet, what is left is all
-pub none_yet : (before all : List Choice) → before ≡ [] → SameChoices (before ++ all) all
-none_yet before all e c o = ap (λ (xs : List Choice). chooses (xs ++ all) c o) e
-
 -- of the queries that are left, the first and those after it
 from_here : {X : Type 0} (f : Query → List X) (qs : List Query) (i : ℕ) (q : Query) → i < length qs → q ≡ get_or qs i q → flat_map f (drop i qs) ≡ f q ++ flat_map f (drop (i + 1) qs)
-from_here f qs i q below is =
-    let next : suc i ≡ i + 1 = omega arith in
-    let here : drop i qs ≡ q ∷ drop (i + 1) qs =
-    drop-cons qs i q below ∙ ap (λ (x : Query). x ∷ drop (suc i) qs) (sym is) ∙ ap (λ (n : ℕ). q ∷ drop n qs) next in
-    ap (flat_map f) here ∙ flat_map-cons f q (drop (i + 1) qs)
+from_here f qs i q below is = rw (drop_more qs i q below, ← is) (flat_map-cons f q (drop (i + 1) qs))
 
 pub chosen_on : (f : Query → List Choice) (qs : List Query) (i : ℕ) (q : Query) (before after : List Choice) → i < length qs → q ≡ get_or qs i q
     → SameChoices after (before ++ f q) → SameChoices (before ++ flat_map f (drop i qs)) (flat_map f qs) → SameChoices (after ++ flat_map f (drop (i + 1) qs)) (flat_map f qs)
-chosen_on f qs i q before after below is added so_far c o =
-    let rest = flat_map f (drop (i + 1) qs) in
-    chosen_both after rest c o
-    ∙ ap (λ (b : Bool). b || chooses rest c o) (added c o)
-    ∙ sym (chosen_both (before ++ f q) rest c o)
-    ∙ ap (λ (xs : List Choice). chooses xs c o) (append_assoc before (f q) rest ∙ ap (λ (xs : List Choice). before ++ xs) (sym (from_here f qs i q below is)))
-    ∙ so_far c o
+chosen_on f qs i q before after below is added so_far =
+    chosen_more before after (f q) (flat_map f (drop (i + 1) qs)) (flat_map f qs) added (λ c o. rw (from_here f qs i q below is) at (so_far c o))
 
 pub points_on : (qs : List Query) (i : ℕ) (q : Query) (before after : List InnerSink) → i < length qs → q ≡ get_or qs i q
     → after ≡ before ++ q.points → before ++ flat_map (λ p. p.points) (drop i qs) ≡ flat_map (λ p. p.points) qs → after ++ flat_map (λ p. p.points) (drop (i + 1) qs) ≡ flat_map (λ p. p.points) qs
-points_on qs i q before after below is added so_far =
-    let rest = flat_map (λ (p : Query). p.points) (drop (i + 1) qs) in
-    ap (λ (xs : List InnerSink). xs ++ rest) added
-    ∙ append_assoc before q.points rest
-    ∙ ap (λ (xs : List InnerSink). before ++ xs) (sym (from_here (λ (p : Query). p.points) qs i q below is))
-    ∙ so_far
-
-pub located_on : (before more after : List InnerSink) → after ≡ before ++ more → AreLocated before → AreLocated more → AreLocated after
-located_on before more after added so_far here =
-    subst AreLocated (sym added) (All-append (λ (p : InnerSink). IsLocation p.loc) before more so_far here)
+points_on qs i q before after below is added so_far = rw (added, append_assoc) (rw (from_here (λ (p : Query). p.points) qs i q below is) at so_far)
 
 -- ---- no query is left
 

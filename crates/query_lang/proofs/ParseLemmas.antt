@@ -57,7 +57,7 @@ nothing_read text draft r a b n = record {
 }
 
 -- what was chosen by a line, and by the lines after it
-chosen_more : (old new line rest all : List Choice) → SameChoices new (old ++ line) → SameChoices (old ++ (line ++ rest)) all → SameChoices (new ++ rest) all
+pub chosen_more : (old new line rest all : List Choice) → SameChoices new (old ++ line) → SameChoices (old ++ (line ++ rest)) all → SameChoices (new ++ rest) all
 chosen_more old new line rest all h k c o =
     same_with new (old ++ line) rest h c o ∙ ap (λ (xs : List Choice). chooses xs c o) (append_assoc old line rest) ∙ k c o
 

@@ -26,8 +26,7 @@ use Rattle.report_model.specs.Grammar.{byte_point, points_of_memory}
 pub one_more : (f : ℕ → InnerSink) (old before new : List InnerSink) (n : ℕ) → before ≡ old ++ map f (range_with_len 0 n) → new ≡ before ++ f n ∷ []
     → new ≡ old ++ map f (range_with_len 0 (n + 1))
 one_more f old before new n so_far pushed =
-    pushed ∙ ap (λ (xs : List InnerSink). xs ++ f n ∷ []) so_far ∙ append_assoc old (map f (range_with_len 0 n)) (f n ∷ [])
-    ∙ ap (λ (xs : List InnerSink). old ++ xs) (sym (map-range_with_len_more f 0 n n (omega arith)))
+    rw (pushed, so_far, map-range_with_len_more f 0 n n (omega arith)) (append_assoc old (map f (range_with_len 0 n)) (f n ∷ []))
 
 pub one_more_byte : (old before new : List InnerSink) (first place past time : ℕ) → first ≤ place → past ≡ place + 1 → before ≡ old ++ points_of_memory first (place - first) time
     → new ≡ before ++ (record { time = time; loc = Mem place }) ∷ [] → new ≡ old ++ points_of_memory first (past - first) time

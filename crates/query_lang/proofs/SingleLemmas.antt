@@ -1,7 +1,6 @@
 -- One byte or one point alone.
-use Rattle.std.proofs.Common.{◌≡◌, ℕ, ◌+◌, ◌<◌, ◌≤◌, ◌==◌, nat_lt, nat_le, Bool, true, false, ◌&&◌, ◌||◌, List, [], ◌∷◌, refl, ap, ap₂, sym, subst, arith, inl, inr}
+use Rattle.std.proofs.Common.{◌≡◌, ℕ, ◌+◌, true, List, [], ◌∷◌, refl, ap, ap₂, sym, subst, arith, inl, inr}
 use Rattle.std.specs.Prelude.{Some, Contains}
-use Rattle.std.proofs.lemmas.Bool.{eqb-true}
 use Rattle.std.proofs.lemmas.Bool.Decides.{nat_tests}
 use Rattle.flow_model.specs.declared.InnerSink.{InnerSink}
 use Rattle.flow_model.specs.declared.SinkPoint.{SinkPoint}
@@ -22,15 +21,7 @@ only_byte c from past e = record { chosen = chosen; alone = alone } where
   chosen = grind (arith, nat_tests)
 
   alone : (d p : ℕ) → chooses (of_one c from past ∷ []) d p ≡ true → (d ≡ c) × (p ≡ from)
-  alone d p h = by (c == d) (nat_le from p) (nat_lt p past) refl refl refl h where
-    by : (x y z : Bool) → (c == d) ≡ x → nat_le from p ≡ y → nat_lt p past ≡ z → ((x && (y && z)) || false) ≡ true → (d ≡ c) × (p ≡ from)
-    by true true true ex ey ez h =
-        let low : from ≤ p = grind (arith, nat_tests) in
-        let high : p < past = grind (arith, nat_tests) in
-        (sym (eqb-true c d ex), omega (arith, low, high, e))
-    by true true false ex ey ez h = absurd cc
-    by true false z ex ey ez h = absurd cc
-    by false y z ex ey ez h = absurd cc
+  alone d p h = (grind (arith, nat_tests), grind (arith, nat_tests))
 
 pub only_source : (q : Query) (c o : ℕ) → IsOnlyByte q.sources c o → IsOnlySource q (record { channel = c; offset = o })
 only_source q c o only = record {

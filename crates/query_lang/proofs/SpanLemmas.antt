@@ -1,13 +1,14 @@
 -- The order of spans, and searches in spans that lie apart.
-use Rattle.std.proofs.Common.{◌≡◌, ℕ, suc, ◌+◌, ◌-◌, ◌<◌, ◌≤◌, ◌≢◌, inl, inr, List, [], ◌∷◌, ◌++◌, length, get_or, drop, refl, ap, sym, ◌∙◌, subst, Bool, true, false, arith}
-use Rattle.std.specs.Prelude.{Option, Some, None, ◌==◌, ◌&&◌, ◌||◌, AllPairs, nat_lt, nat_le}
+use Rattle.std.proofs.Common.{◌≡◌, ℕ, suc, ◌+◌, ◌-◌, ◌<◌, ◌≤◌, ◌⊎◌, inl, inr, List, [], ◌∷◌, ◌++◌, length, get_or, drop, refl, ap, sym, ◌∙◌, subst, Bool, true, false, arith}
+use Rattle.std.specs.Prelude.{Option, Some, None, ◌||◌, AllPairs}
 use Rattle.std.specs.List.{list_any, AllAdjacentBelow}
 use Rattle.std.specs.List.Sorted.{IsPartitionedBy}
+use Rattle.std.proofs.lemmas.Bool.{leb-false, eq-eqb, cases_lt, cases_order}
 use Rattle.std.proofs.lemmas.Bool.Decides.{nat_tests}
 use Rattle.std.proofs.lemmas.List.Folds.{list_any-append, list_any_none, list_any_at}
-use Rattle.std.proofs.lemmas.List.{get_or_default, at_drop_more, append_assoc}
+use Rattle.std.proofs.lemmas.List.{get_or_default, drop_more, append_assoc}
+use Rattle.std.proofs.lemmas.List.Elements.{All-weaker, All-push}
 use Rattle.std.proofs.lemmas.List.Quantifiers.{all_pairs_push}
-use Rattle.std.proofs.lemmas.Grind.{common_steps}
 use Rattle.std.proofs.Math.ListN.{drop_of_length-le}
 use Rattle.query_lang.specs.declared.choice.Offsets.{Offsets}
 use Rattle.query_lang.specs.declared.choice.Span.{Span}
@@ -37,27 +38,16 @@ Precedes-at s t u e (inr h) = inr (h.0 ∙ sym e.0, omega (arith, h.1, e.1), end
 
 not_reached : (o : Option Offsets) (n : ℕ) → reach_to o n ≡ false → EndBefore o n
 not_reached None n h = cc
-not_reached (Some o) n h = past_ends o.past n h where
-  past_ends : (past n : ℕ) → nat_le n past ≡ false → past < n
-  past_ends past n h = grind (arith, nat_tests)
+not_reached (Some o) n h = leb-false n o.past h
 
 pub Precedes-from : (s t : Span) → NotAfter s t → reaches s t ≡ false → Precedes s t
 Precedes-from s t (inl h) r = inl h
-Precedes-from s t (inr h) r = inr (h.0, h.1, not_reached s.offsets (start_of t) (same (s.channel == t.channel) (reach_to s.offsets (start_of t)) alike r)) where
-  alike : (s.channel == t.channel) ≡ true
-  alike = grind (arith, nat_tests)
-
-  same : (a b : Bool) → a ≡ true → (a && b) ≡ false → b ≡ false
-  same true b e k = k
-  same false b e k = cc
+Precedes-from s t (inr h) r = inr (h.0, h.1, not_reached s.offsets (start_of t) (rw (eq-eqb s.channel t.channel h.0) at r))
 
 -- ---- a step of merging
 
 abbrev pub AllPrecede : List Span → Span → Type 0
 AllPrecede kept last = (k : ℕ) (d : Span) → k < length kept → Precedes (get_or kept k d) last
-
-pub all_precede_at : (kept : List Span) (last joined : Span) → AllPrecede kept last → IsAtStartOf last joined → AllPrecede kept joined
-all_precede_at kept last joined h e k d b = Precedes-at (get_or kept k d) last joined e (h k d b)
 
 pub same_joined : (kept : List Span) (last span joined : Span) (rest all : List Span) → HasBoth last span joined → SameBytes (kept ++ last ∷ span ∷ rest) all → SameBytes (kept ++ joined ∷ rest) all
 same_joined kept last span joined rest all h same c o =
@@ -91,15 +81,13 @@ merging_begins all kept first others none e up = record {
   rising : AllAdjacentBelow NotAfter (first ∷ others) (length (first ∷ others))
   rising = subst (λ (xs : List Span). AllAdjacentBelow NotAfter xs (length xs)) e up
 
-next_left : (others : List Span) (i : ℕ) (d : Span) → i < length others → drop i others ≡ get_or others i d ∷ drop (i + 1) others
-next_left others i d b = at_drop_more (λ (xs : List Span). xs) others i d b
-
 pub merging_joins : (all kept : List Span) (last joined : Span) (others : List Span) (i : ℕ) (d : Span) → IsMerging all kept last others i → i < length others
     → IsAtStartOf last joined → HasBoth last (get_or others i d) joined → IsMerging all kept joined others (i + 1)
 merging_joins all kept last joined others i d m b start both = record {
   apart = m.apart;
-  last_after = all_precede_at kept last joined m.last_after start;
-  same = same_joined kept last (get_or others i d) joined (drop (i + 1) others) all both (subst (λ (xs : List Span). SameBytes (kept ++ last ∷ xs) all) (next_left others i d b) m.same);
+  last_after = All-weaker _ _ (λ s. Precedes-at s last joined start) kept m.last_after;
+  same = same_joined kept last (get_or others i d) joined (drop (i + 1) others) all both
+      (subst (λ (xs : List Span). SameBytes (kept ++ last ∷ xs) all) (drop_more others i d b) m.same);
   next = λ e l. NotAfter-at last joined (get_or others (i + 1) e) start (NotAfter-trans last (get_or others i e) (get_or others (i + 1) e) (m.next e b) (m.ascend i e l));
   ascend = m.ascend;
 }
@@ -108,23 +96,15 @@ pub merging_keeps : (all kept : List Span) (last : Span) (others : List Span) (i
     → reaches last (get_or others i d) ≡ false → IsMerging all (kept ++ last ∷ []) (get_or others i d) others (i + 1)
 merging_keeps all kept last others i d m b apart = record {
   apart = all_pairs_push Precedes kept last m.apart m.last_after;
-  last_after = λ k e l. after k e l (nat_lt k (length kept)) refl;
-  same = λ c o. ap (list_any (span_has c o)) (append_assoc kept (last ∷ []) ((get_or others i d) ∷ drop (i + 1) others) ∙ ap (λ (xs : List Span). kept ++ last ∷ xs) (sym (next_left others i d b))) ∙ m.same c o;
+  last_after = All-push (λ s. Precedes s (get_or others i d)) kept last
+      (All-weaker _ _ (λ s h. Precedes-trans s last (get_or others i d) h precedes) kept m.last_after) precedes;
+  same = λ c o. ap (list_any (span_has c o)) (append_assoc kept (last ∷ []) ((get_or others i d) ∷ drop (i + 1) others) ∙ ap
+      (λ (xs : List Span). kept ++ last ∷ xs) (sym (drop_more others i d b))) ∙ m.same c o;
   next = λ e l. subst (λ (s : Span). NotAfter s (get_or others (i + 1) e)) (get_or_default others i e d b) (m.ascend i e l);
   ascend = m.ascend;
 } where
   precedes : Precedes last (get_or others i d)
   precedes = Precedes-from last (get_or others i d) (m.next d b) apart
-
-  after : (k : ℕ) (e : Span) → k < length (kept ++ last ∷ []) → (t : Bool) → nat_lt k (length kept) ≡ t → Precedes (get_or (kept ++ last ∷ []) k e) (get_or others i d)
-  after k e l true h =
-      let inside : k < length kept = grind (arith, nat_tests) in
-      let same : get_or (kept ++ last ∷ []) k e ≡ get_or kept k e = grind (arith, common_steps) in
-      subst (λ (s : Span). Precedes s (get_or others i d)) (sym same) (Precedes-trans (get_or kept k e) last (get_or others i d) (m.last_after k e inside) precedes)
-  after k e l false h =
-      let at_end : length kept ≤ k = grind (arith, nat_tests) in
-      let same : get_or (kept ++ last ∷ []) k e ≡ last = grind (arith, common_steps) in
-      subst (λ (s : Span). Precedes s (get_or others i d)) (sym same) precedes
 
 pub merging_ends : (all kept : List Span) (last : Span) (others : List Span) (i : ℕ) → IsMerging all kept last others i → length others ≤ i → (AllPairs Precedes (kept ++ last ∷ [])) × (SameBytes (kept ++ last ∷ []) all)
 merging_ends all kept last others i m done = (
@@ -146,13 +126,10 @@ starts_before : (c o : ℕ) (s t : Span) → Precedes s t → starts_by c o t �
 starts_before c o s t h k = grind (arith, nat_tests)
 
 pub partitioned : (xs : List Span) (c o : ℕ) → AllPairs Precedes xs → IsPartitionedBy (starts_by c o) xs
-partitioned xs c o h i j d le b started = by (nat_lt i j) refl where
-  at : i ≡ j → starts_by c o (get_or xs i d) ≡ true
-  at e = rw e started
-
-  by : (t : Bool) → nat_lt i j ≡ t → starts_by c o (get_or xs i d) ≡ true
-  by true e = let less : i < j = grind (arith, nat_tests) in starts_before c o (get_or xs i d) (get_or xs j d) (h i j d less b) started
-  by false e = let same : i ≡ j = grind (arith, nat_tests) in at same
+partitioned xs c o h i j d le b started = by (cases_lt i j) where
+  by : (i < j) ⊎ (j ≤ i) → starts_by c o (get_or xs i d) ≡ true
+  by (inl less) = starts_before c o (get_or xs i d) (get_or xs j d) (h i j d less b) started
+  by (inr past) = let same : i ≡ j = omega arith in rw same started
 
 pub none_has : (xs : List Span) (c o n : ℕ) → StartUpTo c o xs n → n ≡ 0 → list_any (span_has c o) xs ≡ false
 none_has xs c o n point zero = list_any_none (span_has c o) xs (λ k d b. has_started c o (get_or xs k d) (point.1 k d (omega arith) b))
@@ -160,22 +137,12 @@ none_has xs c o n point zero = list_any_none (span_has c o) xs (λ k d b. has_st
 -- of the spans that start by a byte only the last may have it
 pub last_has : (xs : List Span) (c o n : ℕ) (e : Span) → StartUpTo c o xs n → AllPairs Precedes xs → 0 < n → n ≤ length xs → span_has c o (get_or xs (n - 1) e) ≡ list_any (span_has c o) xs
 last_has xs c o n e point apart some within = by (span_has c o (get_or xs (n - 1) e)) refl where
-  others : (k : ℕ) (d : Span) → k < length xs → k ≢ n - 1 → span_has c o (get_or xs k d) ≡ false
-  others k d b other = elsewhere (nat_lt k n) refl where
-    elsewhere : (t : Bool) → nat_lt k n ≡ t → span_has c o (get_or xs k d) ≡ false
-    elsewhere true l =
-        let less : k < n - 1 = grind (arith, nat_tests) in
-        has_ended c o (get_or xs k d) (get_or xs (n - 1) d) (apart k (n - 1) d less (omega arith)) (point.0 (n - 1) d (omega arith) (omega arith))
-    elsewhere false l = let after : n ≤ k = grind (arith, nat_tests) in has_started c o (get_or xs k d) (point.1 k d after b)
-
-  each : span_has c o (get_or xs (n - 1) e) ≡ false → (k : ℕ) (d : Span) → k < length xs → span_has c o (get_or xs k d) ≡ false
-  each none k d b = here (k == n - 1) refl where
-    here : (t : Bool) → (k == n - 1) ≡ t → span_has c o (get_or xs k d) ≡ false
-    here true l =
-        let same : k ≡ n - 1 = grind (arith, nat_tests) in
-        ap (λ (i : ℕ). span_has c o (get_or xs i d)) same ∙ ap (span_has c o) (get_or_default xs (n - 1) d e (omega arith)) ∙ none
-    here false l = let other : k ≢ n - 1 = grind (arith, nat_tests) in others k d b other
+  each : span_has c o (get_or xs (n - 1) e) ≡ false → (k : ℕ) (d : Span) → k < length xs → (k ≡ n - 1) ⊎ ((k < n - 1) ⊎ (n - 1 < k)) → span_has c o (get_or xs k d) ≡ false
+  each none k d b (inl same) = ap (λ (i : ℕ). span_has c o (get_or xs i d)) same ∙ ap (span_has c o) (get_or_default xs (n - 1) d e (omega arith)) ∙ none
+  each none k d b (inr (inl less)) =
+      has_ended c o (get_or xs k d) (get_or xs (n - 1) d) (apart k (n - 1) d less (omega arith)) (point.0 (n - 1) d (omega arith) (omega arith))
+  each none k d b (inr (inr more)) = has_started c o (get_or xs k d) (point.1 k d (omega arith) b)
 
   by : (t : Bool) → span_has c o (get_or xs (n - 1) e) ≡ t → t ≡ list_any (span_has c o) xs
   by true h = sym (list_any_at (span_has c o) xs (n - 1) e (omega arith) h)
-  by false h = sym (list_any_none (span_has c o) xs (each h))
+  by false h = sym (list_any_none (span_has c o) xs (λ k d b. each h k d b (cases_order k (n - 1))))

@@ -1,5 +1,6 @@
 -- The words of a line, taken off one by one.
 use Rattle.std.proofs.Common.{◌≡◌, ℕ, suc, ◌+◌, ◌<◌, List, [], ◌∷◌, length, take, drop, refl, ap, sym, ◌∙◌, arith, Bool, true, false, cond, nat_lt, not}
+use Rattle.std.proofs.lemmas.Bool.{lt-ltb}
 use Rattle.std.proofs.lemmas.Bool.Decides.{nat_tests}
 use Rattle.std.specs.Str.{bytes_eq}
 use Rattle.std.specs.Prelude.{◌==◌}
@@ -50,13 +51,11 @@ no_words xs h =
     let e = nothing_left xs h in
     (sym (words-from_word xs) ∙ ap words e, ap (λ (ys : List ℕ). words (after_word ys)) e)
 
-some_bytes : (w : List ℕ) → 0 < length w → has_bytes w ≡ true
-some_bytes w h = grind (arith, nat_tests)
-
 pub next_word : (xs : List ℕ) → 0 < length (first_word (from_word xs)) → words xs ≡ first_word (from_word xs) ∷ words (after_word (from_word xs))
 next_word xs h =
     let ys = from_word xs in
-    sym (words-from_word xs) ∙ words-first_word ys ∙ ap (λ (b : Bool). cond b (first_word ys ∷ words (after_word ys)) (words (after_word ys))) (some_bytes (first_word ys) h)
+    sym (words-from_word xs) ∙ words-first_word ys ∙ ap (λ (b : Bool). cond b (first_word ys ∷ words (after_word ys)) (words (after_word ys)))
+    (lt-ltb 0 (length (first_word ys)) h)
 
 -- ---- comments
 

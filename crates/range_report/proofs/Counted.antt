@@ -14,9 +14,8 @@ parted (r ∷ rs) = by (parted rs) (is_output r.sink) (has_any r.sources)
         ≡ length (cond (o && a) (r ∷ output_rows rs) (output_rows rs)) + length (cond (not o && a) (r ∷ point_rows rs) (point_rows rs))
         + length (cond (not a) (r ∷ rows_without rs) (rows_without rs))
     by h true true = omega arith
-    by h true false = omega arith
     by h false true = omega arith
-    by h false false = omega arith
+    by h a b = omega arith
 
 pub rows_are_counted : RowsAreCounted
 rows_are_counted rs =

@@ -1,5 +1,5 @@
 -- Rows of neighbouring output bytes, and which row goes on from them.
-use Rattle.std.proofs.Common.{◌≡◌, ℕ, zero, suc, ◌+◌, ◌≤◌, ◌==◌, Bool, true, false, ◌&&◌, ◌||◌, List, [], ◌∷◌, ◌++◌, length, refl, sym, ap, ap₂, ◌∙◌, arith, append-nil, not}
+use Rattle.std.proofs.Common.{◌≡◌, ℕ, zero, suc, ◌+◌, ◌≤◌, ◌==◌, Bool, true, false, ◌&&◌, ◌||◌, List, [], ◌∷◌, ◌++◌, length, refl, sym, ap, ap₂, ◌∙◌, arith, append-nil}
 use Rattle.std.specs.Prelude.{if◌then◌else◌}
 use Rattle.std.specs.List.{flat_map, list_all}
 use Rattle.std.specs.Cmp.Lexicographic.{pointwise}
@@ -34,9 +34,8 @@ next_source d e = ap₂ ◌&&◌ (eq-eqb d d refl) (eq-eqb (e + 1) (e + 1) refl)
 
 -- no source bytes are the next of themselves, and none the same as the next
 not_next : (bs : List SourceByte) → is_next_source bs bs ≡ false
-not_next [] = refl
 not_next (x ∷ []) = ap (λ (b : Bool). (x.channel == x.channel) && b) (grind (arith, nat_tests)) ∙ and_right (x.channel == x.channel) false refl
-not_next (x ∷ y ∷ xs) = refl
+not_next xs = refl
 
 not_same : (d e : ℕ) → same_sources (byte_on d e ∷ []) (byte_on d (e + 1) ∷ []) ≡ false
 not_same d e = ap (λ (b : Bool). ((d == d) && b) && true) (other_number e) ∙ and_true ((d == d) && false) ∙ and_right (d == d) false refl
@@ -48,15 +47,11 @@ same_itself (b ∷ bs) = ap₂ ◌&&◌ (ap₂ ◌&&◌ (eq-eqb b.channel b.chan
 -- the next of source bytes is one source byte
 next_is_one : (xs ys : List SourceByte) → is_next_source xs ys ≡ true → (length ys == 1) ≡ true
 next_is_one (x ∷ []) (y ∷ []) h = refl
-next_is_one (x ∷ []) (y ∷ z ∷ ys) h = cc
-next_is_one (x ∷ []) [] h = cc
-next_is_one (x ∷ w ∷ xs) ys h = cc
-next_is_one [] ys h = cc
+next_is_one xs ys h = cc
 
 first_is_one : (xs ys : List SourceByte) → is_next_source xs ys ≡ true → (length xs == 1) ≡ true
 first_is_one (x ∷ []) ys h = refl
-first_is_one (x ∷ w ∷ xs) ys h = cc
-first_is_one [] ys h = cc
+first_is_one xs ys h = cc
 
 -- ---- one row more
 
@@ -242,9 +237,8 @@ alike = test.eq-value.it
 
 pub alike-same : (xs ys : List SourceByte) → pointwise alike xs ys ≡ same_sources xs ys
 alike-same [] [] = refl
-alike-same [] (y ∷ ys) = refl
-alike-same (x ∷ xs) [] = refl
 alike-same (x ∷ xs) (y ∷ ys) = ap (λ (b : Bool). (alike x y) && b) (alike-same xs ys)
+alike-same xs ys = refl
 
 pub same-sources : (xs ys : List SourceByte) → same_sources xs ys ≡ true → xs ≡ ys
 same-sources xs ys h = equal_sources xs ys (alike-same xs ys ∙ h)

@@ -1,5 +1,5 @@
 -- What the line of a moved run tells. Crates above cite `one_range`, `next_sink-is` and `next_source-is`.
-use Rattle.std.proofs.Common.{◌≡◌, ℕ, zero, suc, ◌+◌, ◌-◌, ◌<◌, ◌≤◌, ◌==◌, Bool, true, false, ◌&&◌, List, [], ◌∷◌, ◌++◌, length, get_or, take, drop, refl, sym, ap, ap₂, ◌∙◌, arith, eqb-true, append-nil}
+use Rattle.std.proofs.Common.{◌≡◌, ℕ, zero, suc, ◌+◌, ◌-◌, ◌<◌, ◌≤◌, ◌==◌, Bool, true, ◌&&◌, List, [], ◌∷◌, ◌++◌, length, get_or, take, drop, refl, sym, ap, ap₂, ◌∙◌, arith, eqb-true, append-nil}
 use Rattle.std.specs.Prelude.{if◌then◌else◌}
 use Rattle.std.specs.List.{flat_map, list_all}
 use Rattle.std.proofs.lemmas.Bool.{and_parts}
@@ -137,8 +137,7 @@ told_same calls run h = by (is_moved run) refl (list_all (holds_sources calls) r
   where
     by : (a : Bool) → is_moved run ≡ a → (b : Bool) → list_all (holds_sources calls) run ≡ b → (if a then (if b then Same else Changed) else Shared) ≡ Same → IsTold calls run
     by true e true f h = record { moved = e; holds = f }
-    by true e false f h = cc
-    by false e b f h = cc
+    by a e b f h = cc
 
 pub same_holds_range : SameHoldsRange
 same_holds_range calls r rs h =

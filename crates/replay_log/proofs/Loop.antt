@@ -28,65 +28,53 @@ pub record IsReadTo (v : Version) (size : ℕ) (all : Result Body (LogKind × �
   pub within : length rest ≤ size
   pub read : all ≡ map_ok (with_calls records) (body_of v (suc most) least (size - length rest) left rest)
 
-pub item_after : (v : Version) (least : ℕ) (left : List (List ℕ)) (rest : List ℕ) (item : Item) (after : List ℕ) (kept : List (List ℕ)) → IsFirst v least left rest item after kept → length after < length rest
-item_after v least left rest item after kept t = let bounds = item_length-bounds v least left rest t.none in omega (arith, bounds, ap length t.leaves, length-drop (item_length v rest) rest)
+bytes_after : (records : List CallRecord) (e : RunEnd) (offset : ℕ) (after : List ℕ) → 0 < length after → map_ok (with_calls records) (with_end e offset after) ≡ Err (Trailing, offset)
+bytes_after records e offset [] some = absurd (omega (arith, some))
+bytes_after records e offset (b ∷ after) some = refl
 
--- what is after the record at the front is within the bytes too
-pub still_within : (v : Version) (size least : ℕ) (left : List (List ℕ)) (rest : List ℕ) (item : Item) (after : List ℕ) (kept : List (List ℕ)) → length rest ≤ size → IsFirst v least left rest item after kept → length after ≤ size
-still_within v size least left rest item after kept within t = let shorter = item_after v least left rest item after kept t in omega (arith, within, shorter)
+module _ {v : Version} {least : ℕ} {left : List (List ℕ)} {rest : List ℕ} where
+  -- one record at the front
+  module _ {item : Item} {after : List ℕ} {kept : List (List ℕ)} (t : IsFirst v least left rest item after kept) where
+    pub item_after : length after < length rest
+    item_after = let bounds = item_length-bounds v least left rest t.none in omega (arith, bounds, ap length t.leaves, length-drop (item_length v rest) rest)
 
--- the offset of what is after the record at the front
-next_offset : (v : Version) (size least : ℕ) (left : List (List ℕ)) (rest after : List ℕ) (item : Item) (kept : List (List ℕ)) → length rest ≤ size → IsFirst v least left rest item after kept
-    → size - length rest + item_length v rest ≡ size - length after
-next_offset v size least left rest after item kept within t =
-    let bounds = item_length-bounds v least left rest t.none in omega (arith, bounds, within, ap length t.leaves, length-drop (item_length v rest) rest)
+    -- the offset of what is after it
+    next_offset : (size : ℕ) → length rest ≤ size → size - length rest + item_length v rest ≡ size - length after
+    next_offset size within =
+        let bounds = item_length-bounds v least left rest t.none in omega (arith, bounds, within, ap length t.leaves, length-drop (item_length v rest) rest)
 
-pub goes_on : (v : Version) (size : ℕ) (all : Result Body (LogKind × ℕ)) (records : List CallRecord) (least : ℕ) (left : List (List ℕ)) (rest : List ℕ) (r : CallRecord) (after : List ℕ) (kept : List (List ℕ))
-    → IsReadTo v size all records least left rest → IsFirst v least left rest (Call r) after kept → IsReadTo v size all (records ++ r ∷ []) (at_of r + 1) kept after
-goes_on v size all records least left rest r after kept so_far t = more so_far.most so_far.enough so_far.read where
-  more : (most : ℕ) → length rest ≤ most → all ≡ map_ok (with_calls records) (body_of v (suc most) least (size - length rest) left rest) → IsReadTo v size all (records ++ r ∷ []) (at_of r + 1) kept after
-  more zero h e = let less = item_after v least left rest (Call r) after kept t in absurd (omega arith)
-  more (suc most) h e =
-      let less = item_after v least left rest (Call r) after kept t in
-      let next : size - length rest + item_length v rest ≡ size - length after = next_offset v size least left rest after (Call r) kept so_far.within t in
-      record {
+  -- more records after those that were read
+  module _ {size : ℕ} {all : Result Body (LogKind × ℕ)} {records : List CallRecord} (so_far : IsReadTo v size all records least left rest) where
+    pub goes_on : {r : CallRecord} {after : List ℕ} {kept : List (List ℕ)} → IsFirst v least left rest (Call r) after kept → IsReadTo v size all (records ++ r ∷ []) (at_of r + 1) kept after
+    goes_on {r} {after} {kept} t = more so_far.most so_far.enough so_far.read where
+      more : (most : ℕ) → length rest ≤ most → all ≡ map_ok (with_calls records) (body_of v (suc most) least (size - length rest) left rest) → IsReadTo v size all (records ++ r ∷ []) (at_of r + 1) kept after
+      more zero h e = let less = item_after t in absurd (omega arith)
+      more (suc most) h e = let less = item_after t in record {
         most = most;
         enough = omega arith;
         within = omega (arith, so_far.within);
         read =
             e ∙ ap (map_ok (with_calls records)) (body_of-call v (suc most) least (size - length rest) left rest r t.none (sym t.says))
             ∙ with_calls-push records r (body_of v (suc most) (at_of r + 1) (size - length rest + item_length v rest) (left_after r left) (drop (item_length v rest) rest))
-            ∙ ap₂ (λ (n : ℕ) (x : List ℕ). map_ok (with_calls (records ++ r ∷ [])) (body_of v (suc most) (at_of r + 1) n (left_after r left) x)) next (sym t.leaves)
-            ∙ ap (λ (x : List (List ℕ)). map_ok (with_calls (records ++ r ∷ [])) (body_of v (suc most) (at_of r + 1) (size - length after) x after)) (sym t.keeps);
+            ∙ rw (next_offset t size so_far.within, t.leaves, t.keeps) refl;
       }
 
--- the end, and the bytes after it
-end_read : (v : Version) (size : ℕ) (all : Result Body (LogKind × ℕ)) (records : List CallRecord) (least : ℕ) (left : List (List ℕ)) (rest : List ℕ) (e : RunEnd) (after : List ℕ) (kept : List (List ℕ))
-    → IsReadTo v size all records least left rest → IsFirst v least left rest (End e) after kept → all ≡ map_ok (with_calls records) (with_end e (size - length after) after)
-end_read v size all records least left rest e after kept so_far t =
-    let next = next_offset v size least left rest after (End e) kept so_far.within t in
-    so_far.read
-    ∙ ap (map_ok (with_calls records)) (body_of-end v so_far.most least (size - length rest) left rest e t.none (sym t.says) ∙ ap₂ (with_end e) next (sym t.leaves))
+    -- the end, and the bytes after it
+    module _ {e : RunEnd} {after : List ℕ} {kept : List (List ℕ)} (t : IsFirst v least left rest (End e) after kept) where
+      end_read : all ≡ map_ok (with_calls records) (with_end e (size - length after) after)
+      end_read = so_far.read ∙ ap (map_ok (with_calls records))
+          (body_of-end v so_far.most least (size - length rest) left rest e t.none (sym t.says) ∙ ap₂ (with_end e) (next_offset t size so_far.within)
+          (sym t.leaves))
 
-pub is_done : (v : Version) (size : ℕ) (all : Result Body (LogKind × ℕ)) (records : List CallRecord) (least : ℕ) (left : List (List ℕ)) (rest : List ℕ) (e : RunEnd) (after : List ℕ) (kept : List (List ℕ))
-    → IsReadTo v size all records least left rest → IsFirst v least left rest (End e) after kept → length after ≡ 0 → all ≡ Ok (records, e)
-is_done v size all records least left rest e after kept so_far t none =
-    end_read v size all records least left rest e after kept so_far t
-    ∙ ap (λ (x : List ℕ). map_ok (with_calls records) (with_end e (size - length after) x)) (nil_from_length after none)
-    ∙ ap (λ (x : List CallRecord). Ok (x, e)) (append-nil records)
+      pub is_done : length after ≡ 0 → all ≡ Ok (records, e)
+      is_done none = end_read ∙ rw (nil_from_length after none, append-nil records) refl
 
-bytes_after : (records : List CallRecord) (e : RunEnd) (offset : ℕ) (after : List ℕ) → 0 < length after → map_ok (with_calls records) (with_end e offset after) ≡ Err (Trailing, offset)
-bytes_after records e offset [] some = absurd (omega (arith, some))
-bytes_after records e offset (b ∷ after) some = refl
+      pub is_trailing : 0 < length after → all ≡ Err (Trailing, size - length after)
+      is_trailing some = end_read ∙ bytes_after records e (size - length after) after some
 
-pub is_trailing : (v : Version) (size : ℕ) (all : Result Body (LogKind × ℕ)) (records : List CallRecord) (least : ℕ) (left : List (List ℕ)) (rest : List ℕ) (e : RunEnd) (after : List ℕ) (kept : List (List ℕ))
-    → IsReadTo v size all records least left rest → IsFirst v least left rest (End e) after kept → 0 < length after → all ≡ Err (Trailing, size - length after)
-is_trailing v size all records least left rest e after kept so_far t some = end_read v size all records least left rest e after kept so_far t ∙ bytes_after records e (size - length after) after some
-
-pub is_record_fault : (v : Version) (size : ℕ) (all : Result Body (LogKind × ℕ)) (records : List CallRecord) (least : ℕ) (left : List (List ℕ)) (rest : List ℕ) (f : Fault LogKind)
-    → IsReadTo v size all records least left rest → IsCausedBy (λ kind. record_fault v least left rest ≡ Some kind) f → IsCausedBy (IsFaultOf all) (at_offset f (size - length rest))
-is_record_fault v size all records least left rest (At kind) so_far h = so_far.read ∙ ap (map_ok (with_calls records)) (body_of-fault v so_far.most least (size - length rest) left rest kind h)
-is_record_fault v size all records least left rest (NoMemory no_memory) so_far h = tt
+    pub is_record_fault : (f : Fault LogKind) → IsCausedBy (λ kind. record_fault v least left rest ≡ Some kind) f → IsCausedBy (IsFaultOf all) (at_offset f (size - length rest))
+    is_record_fault (At kind) h = so_far.read ∙ ap (map_ok (with_calls records)) (body_of-fault v so_far.most least (size - length rest) left rest kind h)
+    is_record_fault (NoMemory no_memory) h = tt
 
 nothing_read : (r : Result Body (LogKind × ℕ)) → r ≡ map_ok (with_calls []) r
 nothing_read (Ok body) = refl
@@ -118,8 +106,8 @@ bound_most true = omega arith
 bound_most false = omega arith
 
 -- a call's step number has one after it
-pub at_below : (v : Version) (least : ℕ) (left : List (List ℕ)) (rest : List ℕ) (r : CallRecord) (after : List ℕ) (kept : List (List ℕ)) → IsFirst v least left rest (Call r) after kept → at_of r ≤ 2 ^ 40
-at_below v least left rest r after kept t =
+pub at_below : {v : Version} {least : ℕ} {left : List (List ℕ)} {rest : List ℕ} {r : CallRecord} {after : List ℕ} {kept : List (List ℕ)} → IsFirst v least left rest (Call r) after kept → at_of r ≤ 2 ^ 40
+at_below {v} {least} {left} {rest} {r} t =
     let known = no_fault v least left rest t.none in
     let same : at_of r ≡ step_of v rest = ap item_at t.says ∙ at_is v left rest in
     omega (arith, same, known.below, bound_most (nat_lt (tag_of rest) 6))

@@ -1,36 +1,23 @@
 -- The parts of the record at the front, and its faults.
-use Rattle.std.proofs.Common.{◌≡◌, ℕ, ◌+◌, ◌-◌, ◌<◌, ◌≤◌, true, false, List, ◌++◌, length, take, drop, Some, refl, sym, ap, ap₂, subst, ◌∙◌, arith}
+use Rattle.std.proofs.Common.{◌≡◌, ℕ, ◌+◌, ◌-◌, ◌<◌, ◌≤◌, Bool, true, false, List, [], ◌∷◌, ◌++◌, length, take, drop, refl, sym, ap, ap₂, subst, ◌∙◌, arith}
 use Rattle.std.specs.Prelude.{nat_lt, nat_le, ◌==◌}
 use Rattle.std.proofs.lemmas.Bool.{le-ltb, lt-ltb, ne_eqb, or_parts, ltb-false, leb-false}
 use Rattle.std.proofs.lemmas.List.{take_at, drop_at, take-append-drop, take_rest, drop-drop, length-append, length-drop}
+use Rattle.lists.specs.FirstTrue.{first_true}
 use Rattle.log_model.specs.declared.Version.{Version}
 use Rattle.log_model.specs.declared.LogKind.TheVariants.{Short, Result, Bytes}
 use Rattle.log_model.specs.Faults.{tag_of, step_of, step_length, fields_of, fields_length, fixed_length, data_length, step_bound, is_step_wrong, is_result_wrong, are_bytes_wrong, record_fault}
 use Rattle.log_model.specs.Reading.{data_of}
 use Rattle.log_model.proofs.Faults.{IsKnown, record_fault-none}
 use Rattle.replay_log.specs.declared.tags.Tag.{Tag}
-use Rattle.replay_log.specs.declared.tags.Tag.TheVariants.{Read, Write, Clock, Other, Exit, Trap, Limit}
+use Rattle.replay_log.specs.declared.tags.Tag.TheVariants.{Read}
 use Rattle.replay_log.specs.declared.record_parts.RecordParts.{RecordParts}
 use Rattle.replay_log.specs.Tags.{number}
 use Rattle.replay_log.specs.Records.{ArePartsOf, data_count}
 
-number_some : (tag : Tag) → 1 ≤ number tag
-number_some Read = omega arith
-number_some Write = omega arith
-number_some Clock = omega arith
-number_some Other = omega arith
-number_some Exit = omega arith
-number_some Trap = omega arith
-number_some Limit = omega arith
-
-number_most : (tag : Tag) → number tag ≤ 7
-number_most Read = omega arith
-number_most Write = omega arith
-number_most Clock = omega arith
-number_most Other = omega arith
-number_most Exit = omega arith
-number_most Trap = omega arith
-number_most Limit = omega arith
+number_within : (tag : Tag) → (1 ≤ number tag) × (number tag ≤ 7)
+number_within Read = (omega arith, omega arith)
+number_within tag = (omega arith, omega arith)
 
 -- the fields are all there, where the fixed part of the record is
 pub fields_there : (v : Version) (rest : List ℕ) (t fixed : ℕ) (fields : List ℕ) → fixed ≡ fixed_length v t → fixed ≤ length rest → fields ≡ fields_of v rest → fields_length t ≤ length fields
@@ -55,49 +42,29 @@ pub record IsBegun (v : Version) (least : ℕ) (rest : List ℕ) (tag : Tag) (at
   pub step : is_step_wrong least (number tag) at ≡ false
   pub fields_are : fields ≡ fields_of v rest
 
--- what the first tests come to
-record HasPassed (v : Version) (least : ℕ) (rest : List ℕ) (t : ℕ) : Type 0 where
-  some : (length rest == 0) ≡ false
-  not_zero : (t == 0) ≡ false
-  known : nat_lt 7 t ≡ false
-  fixed : nat_lt (length rest) (fixed_length v t) ≡ false
-  step : is_step_wrong least t (step_of v rest) ≡ false
+-- as code has tested it
+pub begun : {v : Version} {least first fixed at : ℕ} {rest fields : List ℕ} {tag : Tag} {b : Bool} → number tag ≡ first → first ≡ tag_of rest → fixed ≡ fixed_length v (number tag) → fixed ≤ length rest
+    → at ≡ step_of v rest → b ≡ is_step_wrong least (number tag) at → b ≡ false → fields ≡ fields_of v rest → IsBegun v least rest tag at fields
+begun {rest} t f e long a s n g = record { tag_is = t ∙ f; fixed = subst (λ (k : ℕ). k ≤ length rest) e long; at_is = a; step = sym s ∙ n; fields_are = g }
 
-passed : (v : Version) (least : ℕ) (rest : List ℕ) (tag : Tag) (at : ℕ) (fields : List ℕ) → IsBegun v least rest tag at fields → HasPassed v least rest (number tag)
-passed v least rest tag at fields is =
-    let t = number tag in
-    record {
-      some = ne_eqb (length rest) 0 (λ e. omega (arith, is.fixed, e));
-      not_zero = ne_eqb t 0 (λ e. omega (arith, number_some tag, e));
-      known = le-ltb 7 t (number_most tag);
-      fixed = le-ltb (length rest) (fixed_length v t) is.fixed;
-      step = subst (λ (k : ℕ). is_step_wrong least t k ≡ false) is.at_is is.step;
-    }
+module _ {v : Version} {least : ℕ} {rest : List ℕ} {tag : Tag} {at : ℕ} {fields : List ℕ} (is : IsBegun v least rest tag at fields) where
+  -- the fault of such a record is that of its fields and its data
+  pub late_fault : (left : List (List ℕ)) → record_fault v least left rest ≡ first_true (
+      (is_result_wrong (number tag) fields, Result) ∷ (are_bytes_wrong v (number tag) left fields, Bytes)
+      ∷ (nat_lt (length rest) (fixed_length v (number tag) + data_count v (number tag) fields), Short) ∷ [])
+  late_fault left =
+      let some : (length rest == 0) ≡ false = ne_eqb (length rest) 0 (λ e. omega (arith, is.fixed, e)) in
+      let not_zero : (number tag == 0) ≡ false = ne_eqb (number tag) 0 (λ e. omega (arith, (number_within tag).0, e)) in
+      let known : nat_lt 7 (number tag) ≡ false = le-ltb 7 (number tag) (number_within tag).1 in
+      let fixed : nat_lt (length rest) (fixed_length v (number tag)) ≡ false = le-ltb (length rest) (fixed_length v (number tag)) is.fixed in
+      let step : is_step_wrong least (number tag) (step_of v rest) ≡ false = rw is.at_is at is.step in
+      rw (← is.tag_is) (rw (some, not_zero, known, fixed, step, is.fields_are) refl)
 
-pub result_fault : (v : Version) (least : ℕ) (left : List (List ℕ)) (rest : List ℕ) (tag : Tag) (at : ℕ) (fields : List ℕ) → IsBegun v least rest tag at fields → is_result_wrong (number tag) fields ≡ true → record_fault v least left rest ≡ Some Result
-result_fault v least left rest tag at fields is wrong =
-    let p = passed v least rest tag at fields is in
-    let here = subst (λ (x : List ℕ). is_result_wrong (number tag) x ≡ true) is.fields_are wrong in
-    rw (← is.tag_is) (rw (p.some, p.not_zero, p.known, p.fixed, p.step, here) refl)
-
-pub bytes_fault : (v : Version) (least : ℕ) (left : List (List ℕ)) (rest : List ℕ) (tag : Tag) (at : ℕ) (fields : List ℕ) → IsBegun v least rest tag at fields → is_result_wrong (number tag) fields ≡ false
-    → are_bytes_wrong v (number tag) left fields ≡ true → record_fault v least left rest ≡ Some Bytes
-bytes_fault v least left rest tag at fields is right wrong =
-    let p = passed v least rest tag at fields is in
-    let outcome = subst (λ (x : List ℕ). is_result_wrong (number tag) x ≡ false) is.fields_are right in
-    let here = subst (λ (x : List ℕ). are_bytes_wrong v (number tag) left x ≡ true) is.fields_are wrong in
-    rw (← is.tag_is) (rw (p.some, p.not_zero, p.known, p.fixed, p.step, outcome, here) refl)
-
-pub short_fault : (v : Version) (least : ℕ) (left : List (List ℕ)) (rest : List ℕ) (tag : Tag) (at : ℕ) (fields : List ℕ) (size : ℕ) → IsBegun v least rest tag at fields → is_result_wrong (number tag) fields ≡ false
-    → are_bytes_wrong v (number tag) left fields ≡ false → size ≡ data_count v (number tag) fields → length fields - fields_length (number tag) < size → record_fault v least left rest ≡ Some Short
-short_fault v least left rest tag at fields size is right allowed count short =
-    let t = number tag in
-    let p = passed v least rest tag at fields is in
-    let outcome = subst (λ (x : List ℕ). is_result_wrong t x ≡ false) is.fields_are right in
-    let bytes = subst (λ (x : List ℕ). are_bytes_wrong v t left x ≡ false) is.fields_are allowed in
-    let same : size ≡ data_length v t rest = count ∙ ap (data_count v t) is.fields_are in
-    let less : nat_lt (length rest) (fixed_length v t + data_length v t rest) ≡ true = lt-ltb (length rest) (fixed_length v t + data_length v t rest) (omega (arith, same, short, is.fixed, ap length is.fields_are, length-drop (1 + step_length v) rest)) in
-    rw (← is.tag_is) (rw (p.some, p.not_zero, p.known, p.fixed, p.step, outcome, bytes, less) refl)
+  pub short_fault : (size : ℕ) → size ≡ data_count v (number tag) fields → length fields - fields_length (number tag) < size
+      → nat_lt (length rest) (fixed_length v (number tag) + data_count v (number tag) fields) ≡ true
+  short_fault size same short =
+      lt-ltb (length rest) (fixed_length v (number tag) + data_count v (number tag) fields)
+      (omega (arith, same, short, is.fixed, ap length is.fields_are, length-drop (1 + step_length v) rest))
 
 -- what the code has tested and cut
 pub record IsCut (v : Version) (least : ℕ) (left : List (List ℕ)) (rest : List ℕ) (parts : RecordParts) : Type 0 where
@@ -130,8 +97,8 @@ are_parts v least left rest parts is =
     let below = leb-false (step_bound t) parts.at step.1 in
     let known : IsKnown v least left rest t = record {
       tag = sym begun.tag_is;
-      low = number_some parts.tag;
-      high = number_most parts.tag;
+      low = (number_within parts.tag).0;
+      high = (number_within parts.tag).1;
       order = subst (λ (k : ℕ). least ≤ k) begun.at_is order;
       below = subst (λ (k : ℕ). k < step_bound t) begun.at_is below;
       outcome = subst (λ (x : List ℕ). is_result_wrong t x ≡ false) begun.fields_are is.outcome;

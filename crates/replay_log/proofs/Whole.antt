@@ -1,14 +1,14 @@
 -- The header and what is after it are the log that the bytes are read as.
-use Rattle.std.proofs.Common.{◌≡◌, ℕ, ◌+◌, ◌*◌, ◌^◌, ◌≤◌, List, length, take, drop, Ok, refl, ap, ◌∙◌}
+use Rattle.std.proofs.Common.{◌≡◌, ℕ, ◌+◌, ◌*◌, ◌^◌, ◌<◌, ◌≤◌, List, length, get_or, Ok, refl, ap, ◌∙◌}
 use Rattle.std.specs.List.{sum_by}
-use Rattle.lists.specs.Fields.{word_at}
 use Rattle.log_model.specs.declared.Version.TheVariants.{Two}
 use Rattle.log_model.specs.declared.CallRecord.{CallRecord}
 use Rattle.log_model.specs.declared.RunEnd.{RunEnd}
 use Rattle.log_model.specs.Reading.{map_ok, with_header, log_of}
-use Rattle.log_model.specs.Logs.{IsLog, IsBytes, log_text, end_text, share}
+use Rattle.log_model.specs.Logs.{IsLog, log_text, end_text, share}
 use Rattle.log_model.proofs.Reading.{log_of-body}
 use Rattle.log_model.proofs.Soundness.{log_read}
+use Rattle.log_model.proofs.Words.{IsBytes-each}
 use Rattle.log_model.proofs.Texts.{wide_length, wide_limit}
 use Rattle.replay_log.specs.declared.header.Header.{Header}
 use Rattle.log_model.specs.declared.FaultInLog.{FaultInLog}
@@ -19,13 +19,10 @@ use Rattle.replay_log.specs.Answers.{IsFaultOf}
 use Rattle.replay_log.specs.Logs.{log_of_parts}
 use Rattle.replay_log.specs.Header.{IsHeader, body}
 
-parts_from : (pages inputs p i : ℕ) (digest d : List ℕ) (records : List CallRecord) (end : RunEnd) → p ≡ pages → i ≡ inputs → d ≡ digest → log_of_parts pages inputs digest records end ≡ log_of_parts p i d records end
-parts_from pages inputs p i digest d records end e f g = rw (e, f, g) refl
-
 pub whole_log : (bytes : List ℕ) (h : Header) (records : List CallRecord) (end : RunEnd) → IsHeader bytes h → body h.version bytes ≡ Ok (records, end) → log_of bytes ≡ Ok (log_of_parts h.pages h.inputs h.digest records end)
 whole_log bytes h records end is e =
     log_of-body h.version bytes is.none is.version ∙ ap (map_ok (with_header bytes)) e
-    ∙ ap Ok (parts_from (word_at bytes 40) (word_at bytes 44) h.pages h.inputs (take 32 (drop 8 bytes)) h.digest records end is.pages is.inputs is.digest)
+    ∙ rw (is.pages, is.inputs, is.digest) refl
 
 pub whole_fault : (bytes : List ℕ) (h : Header) (fault : Fault FaultInLog) → IsHeader bytes h → IsCausedBy (IsFaultOf (body h.version bytes)) fault → IsCausedBy (IsFaultOf (log_of bytes)) fault
 whole_fault bytes h (At at) is e = log_of-body h.version bytes is.none is.version ∙ ap (map_ok (with_header bytes)) e
@@ -37,8 +34,8 @@ pub record IsWholeLog (h : Header) (records : List CallRecord) (end : RunEnd) : 
   pub size : length (log_text Two (log_of_parts h.pages h.inputs h.digest records end)) ≡ 48 + 4 * h.inputs + sum_by (share h.inputs) records + length (end_text Two end)
   pub limit : length (log_text Two (log_of_parts h.pages h.inputs h.digest records end)) ≤ 2 ^ 27
 
-pub whole_is : (bytes : List ℕ) (h : Header) (records : List CallRecord) (end : RunEnd) → IsBytes bytes → length bytes ≤ 2 ^ 26 → IsHeader bytes h → body h.version bytes ≡ Ok (records, end) → IsWholeLog h records end
-whole_is bytes h records end fits most is e =
+pub whole_is : (bytes : List ℕ) (h : Header) (records : List CallRecord) (end : RunEnd) → ((i : ℕ) → get_or bytes i 0 < 2 ^ 8) → length bytes ≤ 2 ^ 26 → IsHeader bytes h → body h.version bytes ≡ Ok (records, end) → IsWholeLog h records end
+whole_is bytes h records end small most is e =
     let log = log_of_parts h.pages h.inputs h.digest records end in
-    let read = log_read bytes log fits (whole_log bytes h records end is e) in
+    let read = log_read bytes log (IsBytes-each bytes small) (whole_log bytes h records end is e) in
     record { form = read.0; size = wide_length log read.0; limit = wide_limit log bytes read.0 read.1 most }

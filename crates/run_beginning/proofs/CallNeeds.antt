@@ -4,10 +4,10 @@ use Rattle.std.specs.Prelude.{nat_lt, Option, Some, if◌then◌else◌, ℤ}
 use Rattle.std.specs.List.{filter, list_any, range_with_len}
 use Rattle.std.proofs.lemmas.Bool.{lt-ltb}
 use Rattle.isa.specs.declared.CallKind.TheVariants as kind
-use Rattle.isa.specs.Machine.{State, Outcome, Retired, Called, Trapped, fetch, reg, bytes_at}
+use Rattle.isa.specs.Machine.{State, Outcome, Retired, fetch, reg, bytes_at}
 use Rattle.isa.specs.Calls.{channel_of}
 use Rattle.log_model.specs.declared.CallRecord.{CallRecord}
-use Rattle.log_model.specs.declared.CallRecord.TheVariants.{Read, Write, Clock, Other}
+use Rattle.log_model.specs.declared.CallRecord.TheVariants.{Write}
 use Rattle.log_model.specs.Logs.{IsRecord, at_of}
 use Rattle.log_model.specs.Moved.{written}
 use Rattle.flow_model.specs.declared.CallSeen.{CallSeen}
@@ -76,9 +76,7 @@ module _ (q : Query) (inputs t : ℕ) (s : State) (done : List CallRecord) where
   call_needs (Write at args result bytes) rs e form agreed =
       written_needs at args result bytes rs form agreed
       ∙ ap (λ (n : ℕ). if list_any (has_sink q) (bytes_of_call (written_before done) (Write at args result bytes)) then n + 1 else 0) (sym e)
-  call_needs (Read at args result bytes) rs e form agreed = refl
-  call_needs (Clock at value) rs e form agreed = refl
-  call_needs (Other at number) rs e form agreed = refl
+  call_needs r rs e form agreed = refl
 
 -- ---- steps that are no such call
 
@@ -88,5 +86,4 @@ plain_needs q t m s = ap (λ (o : Option CallSeen). needed_by (chosen q (sinks_o
 -- with no record left a step writes nothing
 pub last_needs : (q : Query) (t : ℕ) (s : State) (done : List CallRecord) (o : Outcome) → needed_by (chosen q (sinks_of_step t (step_by (moment t s done []) o).call)) ≡ 0
 last_needs q t s done (Retired after) = plain_needs q t (moment t s done []) after
-last_needs q t s done (Called call) = refl
-last_needs q t s done (Trapped k) = refl
+last_needs q t s done o = refl

@@ -7,7 +7,7 @@ use Rattle.std.proofs.lemmas.List.{take_more, drop_more, take-append-drop}
 use Rattle.isa.specs.Calls.{channel_of}
 use Rattle.log_model.specs.declared.Version.TheVariants.{Two}
 use Rattle.log_model.specs.declared.CallRecord.{CallRecord}
-use Rattle.log_model.specs.declared.CallRecord.TheVariants.{Read, Write, Clock, Other}
+use Rattle.log_model.specs.declared.CallRecord.TheVariants.{Read, Write}
 use Rattle.log_model.specs.Logs.{Log, IsRecord, at_of, log_text}
 use Rattle.log_model.specs.Moved.{written, written_by}
 use Rattle.log_model.proofs.Moved.{length-written-append, length-written-push}
@@ -48,17 +48,13 @@ pub same_need : (q : Query) (f g : ℕ → ℕ) (r : CallRecord) → ((c : ℕ) 
 same_need q f g (Write at args result bytes) h =
     let c = channel_of args in
     ap (λ (xs : List SinkPoint). if list_any (has_sink q) xs then at + 1 else 0) (same_bytes (nat_lt c 16) c (f c) (g c) (length bytes) (λ e. h c (ltb-true c 16 e)))
-same_need q f g (Read at args result bytes) h = refl
-same_need q f g (Clock at value) h = refl
-same_need q f g (Other at number) h = refl
+same_need q f g r h = refl
 
 pub time_below : (rs : List CallRecord) (i : ℕ) (r : CallRecord) → AllByRecursion IsRecord rs → i < length rs → r ≡ get_or rs i r → at_of r < 2 ^ 40
 time_below rs i r forms h e = omega (arith, ap at_of e, by rs i forms h) where
   own : (x : CallRecord) → IsRecord x → at_of x < 2 ^ 40
   own (Read at args result bytes) is = is.0
-  own (Write at args result bytes) is = is.0
-  own (Clock at value) is = is.0
-  own (Other at number) is = is.0
+  own x is = is.0
 
   by : (xs : List CallRecord) (k : ℕ) → AllByRecursion IsRecord xs → k < length xs → at_of (get_or xs k r) < 2 ^ 40
   by [] k is h = absurd (omega (arith, h))

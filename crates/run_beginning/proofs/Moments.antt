@@ -4,7 +4,7 @@ use Rattle.std.proofs.lemmas.Bool.{cases_lt}
 use Rattle.isa.specs.declared.Instr.TheVariants.{Ecall}
 use Rattle.isa.specs.Machine.{State}
 use Rattle.log_model.specs.declared.CallRecord.{CallRecord}
-use Rattle.log_model.specs.declared.CallRecord.TheVariants.{Read, Write, Clock, Other}
+use Rattle.log_model.specs.declared.CallRecord.TheVariants.{Read}
 use Rattle.log_model.specs.declared.RunEnd.TheVariants.{Limit}
 use Rattle.log_model.specs.Logs.{Log, IsLog, Rise, at_of, end_at, steps}
 use Rattle.log_model.proofs.Ends.{end_at-le-steps_by}
@@ -22,9 +22,7 @@ use Rattle.run_beginning.proofs.Fronts.{kept, stops}
 -- what a call is seen as hangs on no later call
 same_seen : (t : ℕ) (s : State) (done : List CallRecord) (r : CallRecord) (rs front : List CallRecord) → call_seen (moment t s done (r ∷ front)) (r ∷ front) ≡ call_seen (moment t s done (r ∷ rs)) (r ∷ rs)
 same_seen t s done (Read at args result bytes) rs front = refl
-same_seen t s done (Write at args result bytes) rs front = refl
-same_seen t s done (Clock at value) rs front = refl
-same_seen t s done (Other at number) rs front = refl
+same_seen t s done r rs front = refl
 
 module _ (log : Log) (n : ℕ) where
   -- the moment of the beginning's run at the time of one of the whole run

@@ -3,7 +3,7 @@ use Rattle.std.proofs.Common.{◌≡◌, refl, ap, sym, subst, arith, ℕ, ◌�
 use Rattle.log_model.specs.declared.Version.TheVariants.{Two}
 use Rattle.log_model.specs.declared.CallRecord.{CallRecord}
 use Rattle.log_model.specs.declared.RunEnd.{RunEnd}
-use Rattle.log_model.specs.declared.RunEnd.TheVariants.{Exit, Trap, Limit}
+use Rattle.log_model.specs.declared.RunEnd.TheVariants.{Exit, Limit}
 use Rattle.log_model.specs.Logs.{Log, IsLog, end_at, end_text, log_text}
 use Rattle.log_model.proofs.Texts.{wide_length}
 use Rattle.log_model.proofs.Ends.{end_at-small}
@@ -15,8 +15,7 @@ use Rattle.run_beginning.proofs.Fronts.{is_front}
 -- no end is shorter than that of a run that is cut off
 limit_is_short : (end : RunEnd) (n : ℕ) → length (end_text Two (Limit n)) ≤ length (end_text Two end)
 limit_is_short (Exit at code) n = omega arith
-limit_is_short (Trap at kind pc) n = omega arith
-limit_is_short (Limit at) n = omega arith
+limit_is_short end n = omega arith
 
 module _ (log : Log) (n : ℕ) (form : IsLog log) where
   pub beginning_is_log : n ≤ end_at log.end → IsLog (beginning n log)

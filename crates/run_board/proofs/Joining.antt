@@ -16,12 +16,11 @@ module _ {T : Type 0} where
 
   pub same_shares : (olds news : List (Worker T)) → length news ≡ length olds → AreSameWorkers olds news → shares_of news ≡ shares_of olds
   same_shares [] [] len f = refl
-  same_shares [] (y ∷ ys) len f = absurd (omega arith)
-  same_shares (x ∷ xs) [] len f = absurd (omega arith)
   same_shares (x ∷ xs) (y ∷ ys) len f =
       let h : share_count y ≡ share_count x = (f 0 x (omega arith)).shares in
       let t = same_shares xs ys (omega arith) (λ k d lt. f (suc k) d (omega arith)) in
       omega (arith, sum_by-cons (λ (worker : Worker T). (view_of worker).shares) x xs, sum_by-cons (λ (worker : Worker T). (view_of worker).shares) y ys)
+  same_shares olds news len f = absurd (omega arith)
 
   pub shares_of-push : (xs : List (Worker T)) (x : Worker T) → shares_of (xs ++ x ∷ []) ≡ shares_of xs + (view_of x).shares
   shares_of-push xs x = omega (arith, sum_by-append (λ (worker : Worker T). (view_of worker).shares) xs (x ∷ []), sum_by-cons (λ (worker : Worker T). (view_of worker).shares) x [])

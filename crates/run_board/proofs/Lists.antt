@@ -1,6 +1,7 @@
 -- Lists, and what holds of each of their elements.
-use Rattle.std.proofs.Common.{◌≡◌, ◌≢◌, ℕ, zero, suc, Some, List, [], ◌∷◌, ◌++◌, length, set, sym, refl, subst, ◌∙◌, append-nil, arith, All}
+use Rattle.std.proofs.Common.{◌≡◌, ◌≢◌, ℕ, zero, suc, Some, List, [], ◌∷◌, ◌++◌, length, set, ap, sym, refl, subst, ◌∙◌, append-nil, arith, All}
 use Rattle.std.specs.List.{slice_get}
+use Rattle.std.proofs.lemmas.List.{nil_from_length}
 use Rattle.std.proofs.lemmas.List.Elements.{All-nil, All-cons, All-head, All-tail}
 use mathlib.Core.Option.{some, some-injective, some-ne-none}
 use lib.ListN.{get_elem?}
@@ -13,14 +14,12 @@ get_longer (y ∷ xs) ys (suc i) x e = get_longer xs ys i x e
 
 pub get_last : {X : Type 0} (xs : List X) (n : ℕ) (x : X) → length xs ≡ n → slice_get (xs ++ x ∷ []) n ≡ Some x
 get_last [] zero x e = refl
-get_last [] (suc n) x e = absurd (omega arith)
-get_last (y ∷ xs) zero x e = absurd (omega arith)
 get_last (y ∷ xs) (suc n) x e = get_last xs n x (omega arith)
+get_last xs n x e = absurd (omega arith)
 
 -- what comes before no more elements is all
 pub all_before : {X : Type 0} (xs rest ys : List X) → length rest ≡ 0 → xs ++ rest ≡ ys → xs ≡ ys
-all_before xs [] ys none is = sym (append-nil xs) ∙ is
-all_before xs (x ∷ rest) ys none is = absurd (omega (arith, none))
+all_before xs rest ys none is = sym (append-nil xs) ∙ ap (λ l. xs ++ l) (sym (nil_from_length rest none)) ∙ is
 
 module _ {X : Type 0} (P : X → Type 0) where
   pub All-at : (xs : List X) (i : ℕ) (x : X) → get_elem? xs i ≡ some x → All P xs → P x
@@ -37,7 +36,3 @@ module _ {X : Type 0} (P : X → Type 0) where
   All-changed [] i y one others = All-nil P
   All-changed (x ∷ xs) zero y one others = All-cons P y xs one (All-from_at xs (λ j z e. others (suc j) z (λ h. omega arith) e))
   All-changed (x ∷ xs) (suc i) y one others = All-cons P x (set xs i y) (others 0 x (λ h. omega arith) refl) (All-changed xs i y one (λ j z apart e. others (suc j) z (λ h. apart (omega arith)) e))
-
-  pub All-last : (xs : List X) (x : X) → All P (xs ++ x ∷ []) → All P xs × P x
-  All-last [] x all = (All-nil P, All-head P x [] all)
-  All-last (y ∷ xs) x all = let rest = All-last xs x (All-tail P y (xs ++ x ∷ []) all) in (All-cons P y xs (All-head P y (xs ++ x ∷ []) all) rest.0, rest.1)

@@ -11,7 +11,6 @@ use Rattle.run_board.specs.declared.view.WorkerView.{WorkerView}
 use Rattle.run_board.specs.Tasks.{TaskWords, AreNumbered, IsLed}
 use Rattle.run_board.specs.Rule.{view_weight, whole_weight}
 use Rattle.run_board.specs.Workers.{Keeps}
-use Rattle.run_board.proofs.FillOrder.{nil_cons}
 
 -- no number of a range lies below its start
 none_below : (c a n : ℕ) → c ≤ a → sum_by (λ z. c - z) (range_with_len a n) ≡ 0
@@ -51,8 +50,6 @@ module _ {T : Type 0} (words : TaskWords T) where
   led_in_order : (starts news olds : List T) (a : ℕ) → map words.number news ≡ range_with_len a (length olds) → ((i : ℕ) → slice_get starts (a + i) ≡ slice_get olds i)
       → All (IsLed words starts) news → AllZip words.led_from news olds
   led_in_order starts [] [] a e at all = tt
-  led_in_order starts [] (y ∷ ys) a e at all = absurd (nil_cons a (range_with_len (a + 1) (length ys)) (sym e))
-  led_in_order starts (x ∷ xs) [] a e at all = absurd (nil_cons (words.number x) (map words.number xs) e)
   led_in_order starts (x ∷ xs) (y ∷ ys) a e at all =
       let range = range_with_len (a + 1) (length ys) in
       let one = All-head (IsLed words starts) x xs all in
@@ -61,6 +58,7 @@ module _ {T : Type 0} (words : TaskWords T) where
         subst (λ s. words.led_from x s) start_is one.2,
         led_in_order starts xs ys (a + 1) (same-tails (words.number x) a (map words.number xs) range e) (λ i. let n : (a + 1) + i ≡ a + suc i = omega arith in ap (slice_get starts) n ∙ at (suc i)) (All-tail (IsLed words starts) x xs all),
       )
+  led_in_order starts news olds a e at all = absurd cc
 
   -- what the board answers, of the tasks handed in
   pub record IsAnswer (starts tasks : List T) : Type 0 where

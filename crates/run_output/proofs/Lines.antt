@@ -4,7 +4,7 @@ use Rattle.std.specs.List.{flat_map}
 use Rattle.std.proofs.lemmas.List.{take_more, drop_more}
 use Rattle.isa.specs.Calls.{channel_of}
 use Rattle.log_model.specs.declared.CallRecord.{CallRecord}
-use Rattle.log_model.specs.declared.CallRecord.TheVariants.{Read, Write, Clock, Other}
+use Rattle.log_model.specs.declared.CallRecord.TheVariants.{Read, Write}
 use Rattle.replay_model.proofs.Sizes.{moved_with}
 use Rattle.run_output.specs.declared.ways.Way.{Way}
 use Rattle.run_output.specs.declared.ways.Way.TheVariants.{Received, Written}
@@ -15,8 +15,7 @@ use Rattle.run_output.specs.Lines.{Line, transfer_line, line_of, counts_of, line
 pub same_line : (f g : Way → ℕ → ℕ) → ((way : Way) (c : ℕ) → f way c ≡ g way c) → (r : CallRecord) → line_of f r ≡ line_of g r
 same_line f g same (Read at args result bytes) = ap (λ (n : ℕ). transfer_line Received n at args result bytes) (same Received (channel_of args))
 same_line f g same (Write at args result bytes) = ap (λ (n : ℕ). transfer_line Written n at args result bytes) (same Written (channel_of args))
-same_line f g same (Clock at value) = refl
-same_line f g same (Other at number) = refl
+same_line f g same r = refl
 
 counts_more : (rs : List CallRecord) (way : Way) (c i : ℕ) (d : CallRecord) → i < length rs
     → counts_of (take (i + 1) rs) way c ≡ counts_of (take i rs) way c + length (moved_by way c (get_or rs i d))
@@ -36,9 +35,7 @@ left_text rs i = flat_map line_text (lines_after (take i rs) (drop i rs))
 
 pub left_more : (rs : List CallRecord) (i : ℕ) (d : CallRecord) → i < length rs
     → left_text rs i ≡ line_text (line_of (counts_of (take i rs)) (get_or rs i d)) ++ left_text rs (i + 1)
-left_more rs i d h =
-    ap (λ (qs : List CallRecord). flat_map line_text (lines_after (take i rs) qs)) (drop_more rs i d h)
-    ∙ ap (λ (qs : List CallRecord). line_text (line_of (counts_of (take i rs)) (get_or rs i d)) ++ flat_map line_text (lines_after qs (drop (i + 1) rs))) (sym (take_more rs i d h))
+left_more rs i d h = rw (drop_more rs i d h, take_more rs i d h) refl
 
 -- the line of one call more is written
 pub text_more : (rs : List CallRecord) (i : ℕ) (call : CallRecord) (counts : Way → ℕ → ℕ) (out new all : List ℕ) → i < length rs → call ≡ get_or rs i call

@@ -9,6 +9,5 @@ use Rattle.run_output.specs.Stacks.{stacks_text, with_lines_end}
 
 pub alone : (s : State) (log : Log) (ts : List ℕ) → 2 ≤ length ts → stacks_text s log ts
     ≡ with_lines_end (flat_map (λ t. number_line (codes "stack") t ++ stacks_text s log (t ∷ [])) ts)
-alone s log [] h = refl
 alone s log (t ∷ []) h = absurd (omega arith)
-alone s log (t ∷ u ∷ ts) h = refl
+alone s log ts h = refl

@@ -1,7 +1,7 @@
 -- Calls in progress, the innermost last, as code keeps them.
 use Rattle.std.proofs.Common.{◌≡◌, ℕ, ◌+◌, ◌-◌, ◌==◌, ◌<◌, Bool, true, false, List, [], ◌∷◌, ◌++◌, length, get_or, take, drop, reverse, refl, ap, sym, ◌∙◌, arith}
 use Rattle.std.specs.Prelude.{Option, Some, None, unwrap_or, if◌then◌else◌}
-use Rattle.std.proofs.lemmas.List.{take_more, reverse-append}
+use Rattle.std.proofs.lemmas.List.{take_more, take_all, reverse-append}
 use Rattle.run_output.specs.Stack.{return_address, outside_of, after_return}
 
 pub one_inside : (calls : List ℕ) (call : ℕ) → reverse (calls ++ call ∷ []) ≡ call ∷ reverse calls
@@ -29,13 +29,8 @@ without_innermost : (calls : List ℕ) → reverse (take (length calls - 1) call
 without_innermost [] = refl
 without_innermost (call ∷ calls) =
     let k = length (call ∷ calls) - 1 in
-    let whole : k + 1 ≡ length (call ∷ calls) = omega arith in
-    let all : take (k + 1) (call ∷ calls) ≡ call ∷ calls = ap (λ (n : ℕ). take n (call ∷ calls)) whole ∙ take_all (call ∷ calls) in
+    let all : take (k + 1) (call ∷ calls) ≡ call ∷ calls = take_all (k + 1) (call ∷ calls) (omega arith) in
     ap (λ (xs : List ℕ). drop 1 xs) (sym (front (call ∷ calls) k (omega arith)) ∙ ap reverse all)
-  where
-    take_all : (xs : List ℕ) → take (length xs) xs ≡ xs
-    take_all [] = refl
-    take_all (x ∷ xs) = ap (λ (ys : List ℕ). x ∷ ys) (take_all xs)
 
 -- none returns to the address
 pub left_of_all : (address : ℕ) (calls : List ℕ) → outside_of address (reverse calls) ≡ None → reverse (take (length calls - 1) calls) ≡ after_return address (reverse calls)

@@ -1,13 +1,10 @@
 -- The bytes that a log's calls moved can be counted in 64 bits.
-use Rattle.std.proofs.Common.{◌≡◌, ℕ, zero, suc, ◌+◌, ◌^◌, ◌<◌, ◌≤◌, Bool, true, false, List, [], ◌∷◌, length, take, get_or, ap, ◌∙◌, arith, length-take}
-use Rattle.std.specs.Prelude.{if◌then◌else◌, ℤ}
+use Rattle.std.proofs.Common.{◌≡◌, ℕ, suc, ◌+◌, ◌^◌, ◌<◌, ◌≤◌, Bool, true, false, List, [], ◌∷◌, length, take, get_or, ap, ◌∙◌, arith, length-take}
+use Rattle.std.specs.Prelude.{if◌then◌else◌}
 use Rattle.std.specs.List.{AllByRecursion}
 use Rattle.std.proofs.lemmas.List.{take_more}
-use Rattle.lists.proofs.Numbers.{if-itself}
-use Rattle.isa.specs.Calls.{channel_of}
 use Rattle.log_model.specs.declared.Version.TheVariants.{Two}
 use Rattle.log_model.specs.declared.CallRecord.{CallRecord}
-use Rattle.log_model.specs.declared.CallRecord.TheVariants.{Read, Write}
 use Rattle.log_model.specs.Logs.{Log, IsLog, IsRecord, log_text}
 use Rattle.log_model.specs.Moved.{received_of, written_of, is_on}
 use Rattle.replay_model.proofs.Sizes.{moved_with, moved_below_each, received_of_below, written_of_below, records_fit_text}
@@ -27,9 +24,8 @@ moved_by_below Received c r is = if_below (is_on c r) (received_of r) (2 ^ 31) (
 moved_by_below Written c r is = if_below (is_on c r) (written_of r) (2 ^ 31) (written_of_below r is)
 
 front_forms : (n : ℕ) (rs : List CallRecord) → AllByRecursion IsRecord rs → AllByRecursion IsRecord (take n rs)
-front_forms zero rs is = tt
-front_forms (suc n) [] is = tt
 front_forms (suc n) (r ∷ rs) is = (is.0, front_forms n rs is.1)
+front_forms n rs is = tt
 
 -- what the calls up to, and with, one of them moved
 pub room_at : (log : Log) (way : Way) (c i : ℕ) (d : CallRecord) → IsLog log → length (log_text Two log) ≤ 2 ^ 27 → i < length log.records
@@ -42,17 +38,10 @@ room_at log way c i d is small h =
 
 -- ---- room for the bytes of one call
 
-pub room_to_read : (counts : ByteCounts) (call : CallRecord) (at : ℕ) (args : List ℕ) (result : ℤ) (bytes : List ℕ) → HasRoom counts call → call ≡ Read at args result bytes
-    → count_of counts Received (channel_of args) + length bytes < 2 ^ 64
-room_to_read counts call at args result bytes room is =
-    let own : moved_by Received (channel_of args) call ≡ bytes = ap (moved_by Received (channel_of args)) is ∙ if-itself (channel_of args) bytes [] in
-    omega (arith, room.each Received (channel_of args), ap length own)
-
-pub room_to_write : (counts : ByteCounts) (call : CallRecord) (at : ℕ) (args : List ℕ) (result : ℤ) (bytes : List ℕ) → HasRoom counts call → call ≡ Write at args result bytes
-    → count_of counts Written (channel_of args) + length bytes < 2 ^ 64
-room_to_write counts call at args result bytes room is =
-    let own : moved_by Written (channel_of args) call ≡ bytes = ap (moved_by Written (channel_of args)) is ∙ if-itself (channel_of args) bytes [] in
-    omega (arith, room.each Written (channel_of args), ap length own)
+pub room_for : (counts : ByteCounts) (call made : CallRecord) (way : Way) (channel : ℕ) (bytes : List ℕ) → HasRoom counts call → call ≡ made
+    → moved_by way channel made ≡ bytes → count_of counts way channel + length bytes < 2 ^ 64
+room_for counts call made way channel bytes room is own =
+    omega (arith, room.each way channel, ap (λ (r : CallRecord). length (moved_by way channel r)) is, ap length own)
 
 -- there is room for the bytes of each call of a log, after those before it
 pub has_room : (log : Log) (rs : List CallRecord) (counts : ByteCounts) (i : ℕ) (call : CallRecord) → IsLog log → length (log_text Two log) ≤ 2 ^ 27 → rs ≡ log.records

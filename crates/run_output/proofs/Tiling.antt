@@ -1,12 +1,12 @@
 -- The pieces of a channel are the bytes that were moved on it.
-use Rattle.std.proofs.Common.{◌≡◌, ℕ, ◌+◌, ◌==◌, Bool, true, false, ◌⊎◌, inl, inr, List, [], ◌∷◌, ◌++◌, length, refl, ap, sym, ◌∙◌, subst, add-zero}
+use Rattle.std.proofs.Common.{arith, ◌≡◌, ℕ, ◌+◌, ◌==◌, Bool, true, false, ◌⊎◌, inl, inr, List, [], ◌∷◌, ◌++◌, length, refl, ap, subst}
 use Rattle.std.specs.Prelude.{if◌then◌else◌, pos, negsuc}
 use Rattle.std.specs.List.{flat_map, AllByRecursion}
 use Rattle.std.proofs.lemmas.Bool.{eqb-true}
 use Rattle.std.proofs.lemmas.List.{nil_from_length}
 use Rattle.isa.specs.Calls.{channel_of}
 use Rattle.log_model.specs.declared.CallRecord.{CallRecord}
-use Rattle.log_model.specs.declared.CallRecord.TheVariants.{Read, Write, Clock, Other}
+use Rattle.log_model.specs.declared.CallRecord.TheVariants.{Read, Write}
 use Rattle.log_model.specs.Logs.{IsRecord}
 use Rattle.replay_model.proofs.Sizes.{moved_with}
 use Rattle.run_output.specs.declared.ways.Way.{Way}
@@ -36,14 +36,11 @@ piece_is Received c done (Read at args (pos n) bytes) is = on_channel Received c
 piece_is Received c done (Read at args (negsuc n) bytes) is = inl (refl, nothing (channel_of args == c) bytes (nil_from_length bytes is.1.whole))
 piece_is Received c done (Write at args (pos n) bytes) is = inl (refl, nothing (channel_of args == c) [] refl)
 piece_is Received c done (Write at args (negsuc n) bytes) is = inl (refl, nothing (channel_of args == c) [] refl)
-piece_is Received c done (Clock at value) is = inl (refl, refl)
-piece_is Received c done (Other at number) is = inl (refl, refl)
 piece_is Written c done (Read at args (pos n) bytes) is = inl (refl, nothing (channel_of args == c) [] refl)
 piece_is Written c done (Read at args (negsuc n) bytes) is = inl (refl, nothing (channel_of args == c) [] refl)
 piece_is Written c done (Write at args (pos n) bytes) is = on_channel Written c done at args bytes (channel_of args == c) refl
 piece_is Written c done (Write at args (negsuc n) bytes) is = inl (refl, nothing (channel_of args == c) bytes (nil_from_length bytes is.1.whole))
-piece_is Written c done (Clock at value) is = inl (refl, refl)
-piece_is Written c done (Other at number) is = inl (refl, refl)
+piece_is way c done r is = inl (refl, refl)
 
 -- ---- all lines
 
@@ -55,18 +52,14 @@ record AreFrom (offset : ℕ) (bytes : List ℕ) (ps : List Piece) : Type 0 wher
 with_line : (ps rest : List Piece) (offset next : ℕ) (bytes more : List ℕ) → IsPieceOf ps offset bytes → next ≡ offset + length bytes
     → AreFrom next more rest → AreFrom offset (bytes ++ more) (ps ++ rest)
 with_line ps rest offset next bytes more (inl none) e from =
-    let here : next ≡ offset = e ∙ ap (λ (bs : List ℕ). offset + length bs) none.1 ∙ add-zero offset in
-    subst (λ (bs : List ℕ). AreFrom offset (bs ++ more) (ps ++ rest)) (sym none.1)
-    (subst (λ (qs : List Piece). AreFrom offset more (qs ++ rest)) (sym none.0) (subst (λ (n : ℕ). AreFrom n more rest) here from))
+    let here : next ≡ offset = omega (arith, e, ap length none.1) in
+    rw (none.1, none.0) (subst (λ (n : ℕ). AreFrom n more rest) here from)
 with_line ps rest offset next bytes more (inr some) e from =
-    let p = some.0 in
-    let after : next ≡ offset + length p.bytes = e ∙ ap (λ (bs : List ℕ). offset + length bs) (sym some.3) in
-    let one : AreFrom offset (p.bytes ++ more) (p ∷ rest) = record {
-      whole = ap (λ (bs : List ℕ). p.bytes ++ bs) from.whole;
+    let after : next ≡ offset + length some.0.bytes = omega (arith, e, ap length some.3) in
+    rw (← some.3, some.1) (record {
+      whole = ap (λ (bs : List ℕ). some.0.bytes ++ bs) from.whole;
       adjoining = (some.2, subst (λ (n : ℕ). AreAdjoining n rest) after from.adjoining);
-    } in
-    subst (λ (bs : List ℕ). AreFrom offset (bs ++ more) (ps ++ rest)) some.3
-    (subst (λ (qs : List Piece). AreFrom offset (p.bytes ++ more) (qs ++ rest)) (sym some.1) one)
+    })
 
 are_from : (way : Way) (c : ℕ) (done rs : List CallRecord) → AllByRecursion IsRecord rs
     → AreFrom (counts_of done way c) (moved way c rs) (pieces_on way c (lines_after done rs))

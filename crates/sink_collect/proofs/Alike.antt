@@ -22,8 +22,7 @@ and_right false b h = cc
 
 pub same_sources : (xs ys : List SourceByte) → pointwise alike xs ys ≡ true → xs ≡ ys
 same_sources [] [] h = refl
-same_sources [] (y ∷ ys) h = cc
-same_sources (x ∷ xs) [] h = cc
 same_sources (x ∷ xs) (y ∷ ys) h =
     ap₂ (λ (z : SourceByte) (zs : List SourceByte). z ∷ zs) (alike_same x y (and_left (alike x y) (pointwise alike xs ys) h))
     (same_sources xs ys (and_right (alike x y) (pointwise alike xs ys) h))
+same_sources xs ys h = cc

@@ -4,7 +4,7 @@ use Rattle.std.specs.List.{AllByRecursion, IsDistinct}
 use Rattle.std.specs.List.Sorted.{IsSortedBy, IsPermutation}
 use Rattle.std.specs.Ordering.{eq_by_cmp, is_eq, is_lt}
 use Rattle.std.specs.declared.cmp.Ordering.{Ordering}
-use Rattle.std.specs.declared.cmp.Ordering.TheVariants.{Less, Equal, Greater}
+use Rattle.std.specs.declared.cmp.Ordering.TheVariants.{Equal}
 use Rattle.lists.specs.Sets.{set_of}
 use Rattle.lists.proofs.Sorting.{sorted-is_set_of}
 use Rattle.flow_model.proofs.Orders.{point_same}
@@ -17,9 +17,8 @@ use Rattle.sink_collect.specs.Distinct.{AreDistinct, IsApartFrom}
 no_tie : (r s : Row) → (r.sink ≡ s.sink → ⊥) → eq_by_cmp row_cmp r s ≡ false
 no_tie r s n = by (row_cmp r s) refl where
   by : (o : Ordering) → row_cmp r s ≡ o → is_eq o ≡ false
-  by Less e = refl
   by Equal e = absurd (n (point_same r.sink s.sink e))
-  by Greater e = refl
+  by order e = refl
 
 no_ties : (r : Row) (rs : List Row) → IsApartFrom r rs → AllByRecursion (λ s. eq_by_cmp row_cmp r s ≡ false) rs
 no_ties r [] a = tt

@@ -13,6 +13,7 @@ use Rattle.flow_model.specs.Orders.{source_cmp}
 use Rattle.flow_model.proofs.Orders.{source_total, source_same}
 use Rattle.lists.specs.Sets.{has}
 use Rattle.lists.proofs.Algebra.{has-Contains, Contains-has}
+use Rattle.lists.proofs.Lists.{all-parts}
 use Rattle.lists.proofs.Tests.{same-tests}
 use Rattle.report_model.specs.Rows.{Row}
 use Rattle.source_ranges.specs.declared.SourceRange.{SourceRange}
@@ -70,14 +71,6 @@ in_rest p g o low high (inr s) h =
     let below = h.low in
     record { channel = e; low = omega arith; high = omega arith }
 
-all_front : (P : ℕ → Type 0) (xs ys : List ℕ) → AllByRecursion P (xs ++ ys) → AllByRecursion P xs
-all_front P [] ys a = tt
-all_front P (x ∷ xs) ys a = (a.0, all_front P xs ys a.1)
-
-all_rest : (P : ℕ → Type 0) (xs ys : List ℕ) → AllByRecursion P (xs ++ ys) → AllByRecursion P ys
-all_rest P [] ys a = a
-all_rest P (x ∷ xs) ys a = all_rest P xs ys a.1
-
 module _ (p : SourceRange) (o : ℕ) (low : p.from ≤ o) (high : o < p.past) where
   abbrev here : SourceByte
   here = byte_on p.channel o
@@ -106,8 +99,8 @@ module _ (p : SourceRange) (o : ℕ) (low : p.from ≤ o) (high : o < p.past) wh
       → filter (λ r. has source_cmp here r.sources) rows ≡ filter (λ r. has source_cmp first r.sources) rows
   listing [] a = refl
   listing (r ∷ rows) a =
-      ap₂ (λ (t : Bool) (rs : List Row). cond t (r ∷ rs) rs) (one_row r (all_front (IsNotWithin p) (cuts_of r) (flat_map cuts_of rows) a))
-      (listing rows (all_rest (IsNotWithin p) (cuts_of r) (flat_map cuts_of rows) a))
+      let both = all-parts (IsNotWithin p) (cuts_of r) (flat_map cuts_of rows) a in
+      ap₂ (λ (t : Bool) (rs : List Row). cond t (r ∷ rs) rs) (one_row r both.0) (listing rows both.1)
 
 -- all bytes of a range that is cut at all ends of the rows' ranges came where its first did
 pub uncut_alike : (rows : List Row) (cuts : List ℕ) (p : SourceRange) → ((cut : ℕ) → Contains (flat_map cuts_of rows) cut → Contains cuts cut) → IsUncut cuts p → IsAlike rows p

@@ -6,7 +6,7 @@ use Rattle.std.specs.List.Sorted.{IsNonDecreasing, IsStrictlyIncreasing}
 use Rattle.std.specs.Cmp.{tied_itself}
 use Rattle.std.specs.Ordering.{nat_cmp, ordering_then}
 use Rattle.std.specs.declared.cmp.Ordering.{Ordering}
-use Rattle.std.specs.declared.cmp.Ordering.TheVariants.{Less, Equal, Greater}
+use Rattle.std.specs.declared.cmp.Ordering.TheVariants.{Less, Equal}
 use Rattle.std.proofs.lemmas.Bool.{cases_lt}
 use Rattle.std.proofs.lemmas.Bool.Decides.{nat_tests}
 use Rattle.std.proofs.lemmas.List.{get_or_append_left, get_or-append-add, length-append, length-map, get_or-map}
@@ -41,9 +41,7 @@ by_numbers c o d p h = by (nat_cmp c d) refl (nat_cmp o p) refl h where
   by : (r : Ordering) → nat_cmp c d ≡ r → (s : Ordering) → nat_cmp o p ≡ s → ordering_then r (ordering_then s Equal) ≡ Less → (c < d) ⊎ ((c ≡ d) × (o < p))
   by Less e s f g = inl (grind (arith, nat_tests))
   by Equal e Less f g = inr (grind (arith, nat_tests), grind (arith, nat_tests))
-  by Equal e Equal f g = cc
-  by Equal e Greater f g = cc
-  by Greater e s f g = cc
+  by r e s f g = cc
 
 -- a byte before another
 pub before : (a b : SourceByte) → source_cmp a b ≡ Less → (a.channel < b.channel) ⊎ ((a.channel ≡ b.channel) × (a.offset < b.offset))

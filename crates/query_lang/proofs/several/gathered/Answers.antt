@@ -1,11 +1,11 @@
-use Rattle.std.proofs.Common.{List, ◌++◌, length, arith, ap}
-use Rattle.std.specs.List.{flat_map}
+use Rattle.std.proofs.Common.{refl, length, arith, ap}
 use Rattle.std.proofs.lemmas.Result.{IfOk-weaker}
-use Rattle.flow_model.specs.declared.InnerSink.{InnerSink}
-use Rattle.report_model.specs.Query.{Query, Alike}
+use Rattle.report_model.specs.Query.{Alike}
 use Rattle.report_model.specs.Together.{together}
 use Rattle.query_lang.specs.Drafts.{choices_in, query_by}
-use Rattle.query_lang.proofs.GatherLemmas.{none_yet, chosen_on, points_on, located_on, all_gathered}
+use Rattle.std.proofs.lemmas.List.Elements.{All-append}
+use Rattle.flow_model.specs.Ranges.{IsLocation}
+use Rattle.query_lang.proofs.GatherLemmas.{chosen_on, points_on, all_gathered}
 use Rattle.query_lang.proofs.several.gathered.Goals as goal
 
 pub returns : goal.returns
@@ -17,12 +17,11 @@ returns c =
 
 pub loop-query-init : goal.loop-query-init
 loop-query-init c =
-    let queries = c.args.queries.now in
     let none = c.new-points.ensures.items in
     record {
-      sources = none_yet _ (flat_map (λ (q : Query). q.sources) queries) c.new-sources.ensures;
-      sinks = none_yet _ (flat_map (λ (q : Query). q.sinks) queries) c.new-sinks.ensures;
-      points = ap (λ (xs : List InnerSink). xs ++ flat_map (λ (q : Query). q.points) queries) none;
+      sources = λ channel offset. rw c.new-sources.ensures refl;
+      sinks = λ channel offset. rw c.new-sinks.ensures refl;
+      points = rw none refl;
       located = λ k d below. absurd (omega (arith, below, ap length none));
     }
 
@@ -39,8 +38,5 @@ loop-query-preserved c =
       sources = chosen_on (λ q. q.sources) queries i query (choices_in before.sources) (choices_in new.sources) c.loop-query-test.true c.query-item.is added.sources so_far.sources;
       sinks = chosen_on (λ q. q.sinks) queries i query (choices_in before.sinks) (choices_in new.sinks) c.loop-query-test.true c.query-item.is added.sinks so_far.sinks;
       points = points_on queries i query before.points.items new.points.items c.loop-query-test.true c.query-item.is added.points so_far.points;
-      located = located_on before.points.items query.points new.points.items added.points so_far.located added.located;
+      located = rw added.points (All-append (λ p. IsLocation p.loc) before.points.items query.points so_far.located added.located);
     }
-
-pub of-requires : goal.of-requires
-of-requires c = c.loop-query.invariant.located

@@ -1,4 +1,4 @@
-use Rattle.std.proofs.Common.{◌≡◌, ℕ, ◌+◌, Bool, true, false, List, [], ◌∷◌, ◌++◌, sym, ap, ap₂, ◌∙◌, subst, OnOk}
+use Rattle.std.proofs.Common.{refl, ◌≡◌, ℕ, ◌+◌, Bool, List, [], ◌∷◌, ◌++◌, sym, ap, ap₂, ◌∙◌, subst, OnOk}
 use Rattle.std.specs.Prelude.{if◌then◌else◌}
 use Rattle.source_ranges.specs.declared.SourceRange.{SourceRange}
 use Rattle.range_report.specs.declared.RunKind.{RunKind}
@@ -9,9 +9,6 @@ use Rattle.range_report.proofs.MovedLines.{moved-kind, moved-parts}
 use Rattle.range_report.proofs.lines.push_moved.Goals as goal
 use Rattle.range_report.proofs.lines.push_moved.Goals.{then-are_same, else-are_same}
 
-told : (kind : RunKind) (same t : Bool) → same ≡ t → kind ≡ (if t then Same else Changed) → kind ≡ (if same then Same else Changed)
-told kind same t e is = is ∙ ap (λ (b : Bool). if b then Same else Changed) (sym e)
-
 pub returns : goal.returns
 returns c =
     let calls = c.args.moved.now.calls.now in
@@ -20,8 +17,8 @@ returns c =
     let kind = c.if-are_same.kind in
     let same : kind ≡ (if c.are_same.result then Same else Changed) =
     elim c.if-are_same.branch [
-      | then-are_same w ↦ told kind c.are_same.result true w.if-are_same.true w.kind-is
-      | else-are_same w ↦ told kind c.are_same.result false w.if-are_same.false w.kind-is
+      | then-are_same w ↦ rw (w.kind-is, w.if-are_same.true) refl
+      | else-are_same w ↦ rw (w.kind-is, w.if-are_same.false) refl
     ] in
     let is : kind ≡ kind_of calls (rows_moved m) =
     same ∙ ap (λ (b : Bool). if b then Same else Changed) c.are_same.ensures

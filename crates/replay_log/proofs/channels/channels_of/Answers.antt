@@ -1,12 +1,8 @@
-use Rattle.std.proofs.Common.{arith}
 use Rattle.replay_log.proofs.ChannelLoop.{starts, goes_on, is_cut, are_all}
 use Rattle.replay_log.proofs.channels.channels_of.Goals as goal
 
 pub loop-i-init : goal.loop-i-init
 loop-i-init c = rw c.new-left.ensures (starts c.args.version c.args.bytes.now c.args.inputs c.channel_count-count.result c.requires.whole c.requires.inputs c.channel_count-count.ensures)
-
-pub overflow_sub-result : goal.overflow_sub-result
-overflow_sub-result c = omega (arith, c.loop-i.invariant.within)
 
 pub returns-in_default-clause-fault : goal.returns-in_default-clause-fault
 returns-in_default-clause-fault c = is_cut c.args.version c.args.bytes.now _ c.loop-i.i c.loop-i.left c.loop-i.rest.now c.loop-i-test.true c.loop-i.invariant c.in_default.ensures.none
@@ -18,6 +14,3 @@ loop-i-preserved c =
 
 pub returns-clause-ok : goal.returns-clause-ok
 returns-clause-ok c = are_all c.args.version c.args.bytes.now _ c.loop-i.i c.loop-i.left c.loop-i.rest.now c.loop-i-test.false c.loop-i.invariant
-
-pub returns-clause-after : goal.returns-clause-after
-returns-clause-after c = c.loop-i.invariant.within

@@ -1,6 +1,4 @@
 use Rattle.std.proofs.Common.{sym, ◌∙◌, arith, rules}
-use Rattle.log_model.specs.Logs.{IsBytes}
-use Rattle.log_model.proofs.Words.{IsBytes-each}
 use Rattle.replay_log.proofs.Whole.{whole_log, whole_fault, whole_is}
 use Rattle.replay_log.proofs.reading.read_log.Goals as goal
 
@@ -11,34 +9,29 @@ returns-in_err-records-clause-fault c =
 
 pub text_length-size-requires-clause-form : goal.text_length-size-requires-clause-form
 text_length-size-requires-clause-form c =
-    let fits : IsBytes c.args.bytes.now = IsBytes-each _ (λ i. omega (arith, c.type_inv.bytes i)) in
-    let whole = whole_is c.args.bytes.now c.in-Ok.header c.in_ok-records.records.items c.in_ok-records.end fits c.requires c.in-Ok.ensures.ok c.in_ok-records.ensures.ok in
+    let whole = whole_is c.args.bytes.now c.in-Ok.header _ _ (λ i. (c.type_inv.bytes i).fits) c.requires c.in-Ok.ensures.ok c.in_ok-records.ensures.ok in
     rw c.deref.ensures.value whole.form.records
 
 pub text_length-size-requires-clause-limit : goal.text_length-size-requires-clause-limit
 text_length-size-requires-clause-limit c =
-    let fits : IsBytes c.args.bytes.now = IsBytes-each _ (λ i. omega (arith, c.type_inv.bytes i)) in
-    let whole = whole_is c.args.bytes.now c.in-Ok.header c.in_ok-records.records.items c.in_ok-records.end fits c.requires c.in-Ok.ensures.ok c.in_ok-records.ensures.ok in
+    let whole = whole_is c.args.bytes.now c.in-Ok.header _ _ (λ i. (c.type_inv.bytes i).fits) c.requires c.in-Ok.ensures.ok c.in_ok-records.ensures.ok in
     rw c.deref.ensures.value (omega (arith, whole.size, whole.limit))
 
 pub from_parts-requires-clause-form : goal.from_parts-requires-clause-form
 from_parts-requires-clause-form c =
-    let fits : IsBytes c.args.bytes.now = IsBytes-each _ (λ i. omega (arith, c.type_inv.bytes i)) in
-    (whole_is c.args.bytes.now c.in-Ok.header c.in_ok-records.records.items c.in_ok-records.end fits c.requires c.in-Ok.ensures.ok c.in_ok-records.ensures.ok).form
+    (whole_is c.args.bytes.now c.in-Ok.header _ _ (λ i. (c.type_inv.bytes i).fits) c.requires c.in-Ok.ensures.ok c.in_ok-records.ensures.ok).form
 
 pub from_parts-requires-clause-size : goal.from_parts-requires-clause-size
 from_parts-requires-clause-size c =
-    let fits : IsBytes c.args.bytes.now = IsBytes-each _ (λ i. omega (arith, c.type_inv.bytes i)) in
-    let whole = whole_is c.args.bytes.now c.in-Ok.header c.in_ok-records.records.items c.in_ok-records.end fits c.requires c.in-Ok.ensures.ok c.in_ok-records.ensures.ok in
+    let whole = whole_is c.args.bytes.now c.in-Ok.header _ _ (λ i. (c.type_inv.bytes i).fits) c.requires c.in-Ok.ensures.ok c.in_ok-records.ensures.ok in
     (rw c.deref.ensures.value at c.text_length-size.ensures) ∙ sym whole.size
 
 pub from_parts-requires-clause-limit : goal.from_parts-requires-clause-limit
 from_parts-requires-clause-limit c =
-    let fits : IsBytes c.args.bytes.now = IsBytes-each _ (λ i. omega (arith, c.type_inv.bytes i)) in
-    let whole = whole_is c.args.bytes.now c.in-Ok.header c.in_ok-records.records.items c.in_ok-records.end fits c.requires c.in-Ok.ensures.ok c.in_ok-records.ensures.ok in
+    let whole = whole_is c.args.bytes.now c.in-Ok.header _ _ (λ i. (c.type_inv.bytes i).fits) c.requires c.in-Ok.ensures.ok c.in_ok-records.ensures.ok in
     let counted = rw c.deref.ensures.value at c.text_length-size.ensures in
     omega (arith, counted, whole.size, whole.limit)
 
 pub returns-clause-ok : goal.returns-clause-ok
 returns-clause-ok c =
-    rw c.from_parts.ensures (whole_log c.args.bytes.now c.in-Ok.header c.in_ok-records.records.items c.in_ok-records.end c.in-Ok.ensures.ok c.in_ok-records.ensures.ok)
+    rw c.from_parts.ensures (whole_log c.args.bytes.now c.in-Ok.header _ _ c.in-Ok.ensures.ok c.in_ok-records.ensures.ok)

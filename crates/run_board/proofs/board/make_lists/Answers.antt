@@ -27,6 +27,3 @@ loop-preserved g c =
       room = omega (arith, i.room, p.capacity);
       lists = subst (All P) (sym p.items) (All-push P c.loop.lists.items _ i.lists (made.items, made.capacity));
     }
-
-pub returns-clause-room : goal.returns-clause-room
-returns-clause-room g c = c.loop.invariant.lists

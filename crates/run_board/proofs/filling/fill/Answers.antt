@@ -30,12 +30,6 @@ loop-task-init g c =
       tasks = ap (λ (s : List g.row.T.Denot). s ++ into_iter_items c.into_iter-task-iterator.result) starts ∙ e.0;
     }
 
-pub push_as-requires-clause-queue : goal.push_as-requires-clause-queue
-push_as-requires-clause-queue g c = c.loop-task.invariant.pass
-
-pub loop-task-smaller : goal.loop-task-smaller
-loop-task-smaller g c = omega (arith, c.in-Some.ensures.steps.1)
-
 pub loop-task-preserved : goal.loop-task-preserved
 loop-task-preserved g c =
     let T : Type 0 = g.row.T.Denot in
@@ -50,9 +44,6 @@ loop-task-preserved g c =
       view_is = told ∙ ap (λ (v : V). after_fill v c.in-Some.task) i.view_is ∙ ap (λ (s : List T). filled whole_share s) (sym starts);
       tasks = ap (λ (s : List T). s ++ rest) starts ∙ append_assoc before (c.in-Some.task ∷ []) rest ∙ ap (λ (l : List T). before ++ l) (sym c.in-Some.ensures.steps.0) ∙ i.tasks;
     }
-
-pub returns-clause-pass : goal.returns-clause-pass
-returns-clause-pass g c = c.loop-task.invariant.pass
 
 pub returns-clause-filled : goal.returns-clause-filled
 returns-clause-filled g c =

@@ -12,12 +12,6 @@ loop-task-init g c =
       room = omega (arith, c.requires, e.1);
     }
 
-pub push_reserved-requires : goal.push_reserved-requires
-push_reserved-requires g c = omega (arith, c.loop-task.invariant.room, c.in-Some.ensures.steps.1)
-
-pub loop-task-smaller : goal.loop-task-smaller
-loop-task-smaller g c = omega (arith, c.in-Some.ensures.steps.1)
-
 pub loop-task-preserved : goal.loop-task-preserved
 loop-task-preserved g c =
     let T : Type 0 = g.row.T.Denot in
@@ -36,6 +30,3 @@ pub returns-clause-items : goal.returns-clause-items
 returns-clause-items g c =
     let none : length (into_iter_items c.loop-task.task-iterator) ≡ 0 = omega (arith, c.in-None.ensures.steps.0, c.loop-task.task-iterator.rest.ok) in
     all_before c.loop-task.finished.items (into_iter_items c.loop-task.task-iterator) _ none c.loop-task.invariant.items
-
-pub returns-clause-capacity : goal.returns-clause-capacity
-returns-clause-capacity g c = c.loop-task.invariant.capacity

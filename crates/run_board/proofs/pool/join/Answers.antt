@@ -30,15 +30,6 @@ returns-clause-ready g c =
       room = omega (arith, mine.room, c.gather.ensures.capacity);
     }
 
-pub absorb-requires-clause-queue : goal.absorb-requires-clause-queue
-absorb-requires-clause-queue g c = (c.requires.ready.has_pass, c.requires.other_ready.has_pass)
-
-pub returns-clause-starts : goal.returns-clause-starts
-returns-clause-starts g c = ap (λ (v : WorkerView g.row.T.Denot). v.starts) (c.learn_as.ensures.queue.1 ∙ c.absorb.ensures.rule)
-
-pub returns-clause-shares : goal.returns-clause-shares
-returns-clause-shares g c = ap (λ (v : WorkerView g.row.T.Denot). v.shares) (c.learn_as.ensures.queue.1 ∙ c.absorb.ensures.rule)
-
 pub gather-requires : goal.gather-requires
 gather-requires g c =
     let V : Type 0 = WorkerView g.row.T.Denot in

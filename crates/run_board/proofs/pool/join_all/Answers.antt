@@ -39,9 +39,6 @@ loop-other-init g c =
       shares = ap (λ (l : List W). (view_of c.args.worker.now).shares + shares_of l) e;
     }
 
-pub join-requires-clause-ready : goal.join-requires-clause-ready
-join-requires-clause-ready g c κs within = c.loop-other.invariant.ready
-
 pub join-requires-clause-other_ready : goal.join-requires-clause-other_ready
 join-requires-clause-other_ready g c κs within =
     let Ready : Worker g.row.T.Denot → Type 0 = λ w. IsReady g.T.Numbered.words (ruled_capacity c.args.queue.now) (IsPassOf c.args.queue.now) w in
@@ -52,15 +49,6 @@ join-requires-clause-other_starts g c κs within =
     let i = c.loop-other.invariant in
     let known = (view_of c.args.worker.now).starts in
     All-head (KnowsStarts known) c.in-Some.other (into_iter_items c.next.new.self) (subst (All (KnowsStarts known)) c.in-Some.ensures.steps.0 i.others_start) ∙ sym i.starts
-
-pub loop-other-smaller : goal.loop-other-smaller
-loop-other-smaller g c = omega (arith, c.in-Some.ensures.steps.1)
-
-pub returns-clause-ready : goal.returns-clause-ready
-returns-clause-ready g c = c.loop-other.invariant.ready
-
-pub returns-clause-starts : goal.returns-clause-starts
-returns-clause-starts g c = c.loop-other.invariant.starts
 
 pub returns-clause-shares : goal.returns-clause-shares
 returns-clause-shares g c =

@@ -1,12 +1,11 @@
-use Rattle.std.proofs.Common.{◌≡◌, ◌<◌, List, [], ◌∷◌, All, length, sym, ap, ◌∙◌, subst, arith, lit<, length-append}
+use Rattle.std.proofs.Common.{◌≡◌, ◌<◌, Some, List, [], ◌∷◌, All, length, sym, ap, ◌∙◌, subst, arith, lit<, length-append}
 use Rattle.std.specs.Vec.Iter.{into_iter_items}
-use Rattle.std.proofs.lemmas.List.Elements.{All-nil, All-head, All-push, All-rest}
+use Rattle.std.proofs.lemmas.List.Elements.{All-nil, All-head, All-pop, All-push, All-rest}
 use Rattle.crossbeam_queue.specs.Passes.{view, IsPassOf, ruled_capacity}
 use Rattle.run_board.specs.declared.view.WorkerView.{WorkerView}
 use Rattle.run_board.specs.declared.worker.Worker.{Worker}
 use Rattle.run_board.specs.Views.{filled, after_split}
 use Rattle.run_board.specs.Workers.{IsReady, HasRoomFor, KnowsStarts, shares_of}
-use Rattle.run_board.proofs.Lists.{All-last}
 use Rattle.run_board.proofs.KeepsRule.{splits}
 use Rattle.run_board.proofs.Keeping.{keeps_none}
 use Rattle.run_board.proofs.Joining.{shares_of-push}
@@ -29,7 +28,7 @@ loop-finished-init g c =
       pass = c.requires.pass;
       view_is = c.requires.filled ∙ ap (λ n. filled n known) (sym shares);
       left = omega (arith, shares, c.requires.count, ap length e.0, ap length lists, one, c.args.lists.ok);
-      lists = subst (All (HasRoomFor capacity)) (sym e.0) (All-last (HasRoomFor capacity) others c.in-Some.last (subst (All (HasRoomFor capacity)) lists c.requires.lists)).0;
+      lists = subst (All (HasRoomFor capacity)) (sym e.0) (All-pop (HasRoomFor capacity) _ others (Some c.in-Some.last) lists c.requires.lists).0;
       room = omega (arith, c.requires.room, ap length e.0, ap length lists, one, ap length none, c.args.lists.ok, c.args.pool.ok);
       ready = subst (All ready) (sym none) (All-nil ready);
       starts = subst (All (KnowsStarts known)) (sym none) (All-nil (KnowsStarts known));
@@ -78,7 +77,8 @@ returns-clause-ready g c =
     let i = c.loop-finished.invariant in
     let own : W = record { pass = c.loop-finished.pass; finished = c.in-Some.last } in
     let works : 0 < (view c.loop-finished.pass).shares = omega (arith, i.left) in
-    let has_room : HasRoomFor capacity c.in-Some.last = (All-last (HasRoomFor capacity) c.pop.new.self.items c.in-Some.last (subst (All (HasRoomFor capacity)) c.in-Some.ensures.items c.requires.lists)).1 in
+    let has_room : HasRoomFor capacity c.in-Some.last =
+    (All-pop (HasRoomFor capacity) _ c.pop.new.self.items (Some c.in-Some.last) c.in-Some.ensures.items c.requires.lists).1 in
     let keeps = keeps_none g.T.Numbered.words (view c.loop-finished.pass) c.in-Some.last.items (view c.loop-finished.pass).shares (view c.args.pass).starts i.view_is works has_room.0 in
     subst (All ready) (sym c.push_reserved-2.ensures.items) (All-push ready c.loop-finished.pool.items own i.ready (record { has_pass = i.pass; keeps = keeps; few = omega (arith, ap (λ (v : WorkerView g.row.T.Denot). length v.starts) i.view_is, c.requires.few); room = has_room.1 }))
 
@@ -90,21 +90,6 @@ returns-clause-starts g c =
     let own : W = record { pass = c.loop-finished.pass; finished = c.in-Some.last } in
     let known = (view c.args.pass).starts in
     subst (All (KnowsStarts known)) (sym c.push_reserved-2.ensures.items) (All-push (KnowsStarts known) c.loop-finished.pool.items own i.starts (ap (λ (v : V). v.starts) i.view_is))
-
-pub another-share-requires-clause-queue : goal.another-share-requires-clause-queue
-another-share-requires-clause-queue g c = c.loop-finished.invariant.pass
-
-pub push_reserved-requires : goal.push_reserved-requires
-push_reserved-requires g c = omega (arith, c.loop-finished.invariant.room)
-
-pub loop-finished-smaller : goal.loop-finished-smaller
-loop-finished-smaller g c = omega (arith, c.in-Some-finished.ensures.steps.1)
-
-pub push_reserved-requires-2 : goal.push_reserved-requires-2
-push_reserved-requires-2 g c = omega (arith, c.loop-finished.invariant.room)
-
-pub returns-clause-some : goal.returns-clause-some
-returns-clause-some g c = omega (arith, c.push_reserved-2.ensures.len)
 
 pub returns-clause-shares : goal.returns-clause-shares
 returns-clause-shares g c =

@@ -1,13 +1,9 @@
-use Rattle.std.proofs.Common.{rules, sym, subst, arith}
+use Rattle.std.proofs.Common.{subst, arith}
 use Rattle.crossbeam_queue.specs.Passes.{IsPassOf, ruled_capacity}
 use Rattle.run_board.specs.declared.worker.Worker.{Worker}
 use Rattle.run_board.specs.Workers.{IsReady, IsSameWorker}
 use Rattle.run_board.proofs.Joining.{all_know, same_shares}
 use Rattle.run_board.proofs.pool.turn_at_once.Goals as goal
-
-pub for_each_mut-requires-clause-accepts : goal.for_each_mut-requires-clause-accepts
-for_each_mut-requires-clause-accepts g c κs within =
-    λ i p lt is. (subst (λ (w : Worker g.row.T.Denot). IsReady g.T.Numbered.words (ruled_capacity c.args.queue.now) (IsPassOf c.args.queue.now) w) (sym is) (c.requires.ready i p.now lt), search rules)
 
 pub returns-clause-ready : goal.returns-clause-ready
 returns-clause-ready g c = λ k d lt.

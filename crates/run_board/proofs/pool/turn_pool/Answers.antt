@@ -14,13 +14,6 @@ returns-clause-starts g c = λ starts all.
     let is = whole c.args.pool.now.len c.turn_at_once.new.pool c.args.pool.now.items (omega (arith, c.as_mut_slice.ensures.len, c.turn_at_once.auto.pool)) in
     subst (All (KnowsStarts starts)) (sym is) (c.turn_at_once.ensures.starts starts (subst (All (KnowsStarts starts)) (sym c.as_mut_slice.ensures.value) all))
 
-pub turn_at_once-requires-clause-some : goal.turn_at_once-requires-clause-some
-turn_at_once-requires-clause-some g c κs within = omega (arith, c.as_mut_slice.ensures.len, c.requires.some)
-
-pub turn_at_once-requires-clause-ready : goal.turn_at_once-requires-clause-ready
-turn_at_once-requires-clause-ready g c κs within =
-    subst (All (IsReady g.T.Numbered.words (ruled_capacity c.args.queue.now) (IsPassOf c.args.queue.now))) (sym c.as_mut_slice.ensures.value) c.requires.ready
-
 pub returns-clause-ready : goal.returns-clause-ready
 returns-clause-ready g c =
     let is = whole c.args.pool.now.len c.turn_at_once.new.pool c.args.pool.now.items (omega (arith, c.as_mut_slice.ensures.len, c.turn_at_once.auto.pool)) in

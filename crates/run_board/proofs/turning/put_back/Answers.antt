@@ -11,9 +11,6 @@ push_as-requires-clause-rule g c =
       has_room g.T.Numbered.words _ _ h.keeps.working,
     )
 
-pub push_as-requires-clause-queue : goal.push_as-requires-clause-queue
-push_as-requires-clause-queue g c = c.requires.pass
-
 -- a full queue has no room for a task that it handed out
 pub unreachable-requires : goal.unreachable-requires
 unreachable-requires g c =

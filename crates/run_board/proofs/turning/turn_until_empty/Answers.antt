@@ -1,5 +1,4 @@
-use Rattle.std.proofs.Common.{◌≡◌, List, length, refl, sym, ap, ◌∙◌, subst, arith}
-use Rattle.std.proofs.lemmas.Bool.{false≢true}
+use Rattle.std.proofs.Common.{◌≡◌, List, length, sym, ap, ◌∙◌, subst, arith}
 use Rattle.std.proofs.lemmas.List.{nil_from_length}
 use Rattle.crossbeam_queue.specs.Passes.{view}
 use Rattle.run_board.specs.declared.view.WorkerView.{WorkerView}
@@ -40,24 +39,11 @@ loop-preserved g c =
       };
     }
 
-pub loop-init : goal.loop-init
-loop-init g c = record { ready = c.requires.ready; same_worker = record { shares = refl; starts = refl } }
-
-pub pop_as-requires-clause-queue : goal.pop_as-requires-clause-queue
-pop_as-requires-clause-queue g c = c.loop.invariant.ready.has_pass
-
 pub turn_once-requires-clause-pass : goal.turn_once-requires-clause-pass
 turn_once-requires-clause-pass g c κs within =
     let was = c.loop.invariant.ready.has_pass in
     let same = c.pop_as.ensures.queue in
     (same.0 ∙ was.0, same.2 ∙ was.1)
-
-pub turn_once-requires-clause-few : goal.turn_once-requires-clause-few
-turn_once-requires-clause-few g c κs within =
-    omega (arith, ap (λ (v : WorkerView g.row.T.Denot). length v.starts) c.in-Some-pop_as.ensures.rule.0, c.loop.invariant.ready.few)
-
-pub turn_once-requires-clause-room : goal.turn_once-requires-clause-room
-turn_once-requires-clause-room g c κs within = c.loop.invariant.ready.room
 
 pub returns-in-None-pop_as-clause-ready : goal.returns-in-None-pop_as-clause-ready
 returns-in-None-pop_as-clause-ready g c =
@@ -88,7 +74,3 @@ returns-in-None-pop_as-clause-has_all g c = λ all weight.
     let rest = looked.2 (sym (ap (λ (v : V). v.shares) knows) ∙ all) weight in
     let none = ap (λ (l : List T). queue_weight g.T.Numbered.words.number weight l) (nil_from_length looked.0 looked.1) in
     subst (λ (v : V). view_weight weight v ≡ whole_weight (length v.starts) weight) (sym knows) (omega (arith, rest, none))
-
--- the loop has no end
-pub unreachable-requires : goal.unreachable-requires
-unreachable-requires g c = false≢true c.in-None.ensures.steps

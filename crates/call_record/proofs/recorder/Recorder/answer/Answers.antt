@@ -21,13 +21,8 @@ returns-in_ok-other-in-Other-clause-ok g c =
       });
     }
 
-pub read-requires : goal.read-requires
-read-requires g c = record {
-  waits = waits_for c.requires.called c.in-Read.is;
-  source = c.requires.source;
-  safe = c.requires.safe;
-  early = c.requires.early;
-}
+pub read-requires-clause-waits : goal.read-requires-clause-waits
+read-requires-clause-waits g c = waits_for c.requires.called c.in-Read.is
 
 pub returns-in_ok-read-in-Read-clause-ok : goal.returns-in_ok-read-in-Read-clause-ok
 returns-in_ok-read-in-Read-clause-ok g c = record {
@@ -36,13 +31,8 @@ returns-in_ok-read-in-Read-clause-ok g c = record {
   step = inr (record { called = c.requires.called.called; records = c.in_ok-read-in-Read.ensures });
 }
 
-pub write-requires : goal.write-requires
-write-requires g c = record {
-  waits = waits_for c.requires.called c.in-Write.is;
-  source = c.requires.source;
-  safe = c.requires.safe;
-  early = c.requires.early;
-}
+pub write-requires-clause-waits : goal.write-requires-clause-waits
+write-requires-clause-waits g c = waits_for c.requires.called c.in-Write.is
 
 pub returns-in_ok-write-in-Write-clause-ok : goal.returns-in_ok-write-in-Write-clause-ok
 returns-in_ok-write-in-Write-clause-ok g c = record {

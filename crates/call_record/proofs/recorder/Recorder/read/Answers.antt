@@ -7,7 +7,7 @@ use Rattle.record_model.specs.Calls.{result_of, bytes_of}
 use Rattle.call_record.specs.Sources.{contents}
 use Rattle.call_record.specs.Steps.{point_of}
 use Rattle.call_record.specs.Tapes.{Adds}
-use Rattle.call_record.proofs.Calls.{words_are, IsGot, IsRead, read_got, read_counts, read_room, read_records}
+use Rattle.call_record.proofs.Calls.{words_are, IsGot, IsRead, read_got, read_counts, read_moves, read_records}
 use Rattle.call_record.proofs.recorder.Recorder.read.Goals as goal
 use Rattle.call_record.proofs.recorder.Recorder.read.Goals.{After-unless_refused-transfer}
 
@@ -45,17 +45,13 @@ got c =
     let first : get_or args 0 0 < 2 ^ 32 = search rules in
     let second : get_or args 1 0 < 2 ^ 32 = search rules in
     let third : get_or args 2 0 < 2 ^ 32 = search rules in
-    read_got c.args.source.now c.args.at c.args.self.now c.args.call.now c.unless_refused-transfer.result.outcome
-    c.unless_refused-transfer.result.bytes.now
-    c.requires.source c.requires.safe (omega arith) c.requires.waits (words_are args size first second third)
-    c.unless_refused-transfer.ensures.are_bytes (computed c)
+    read_got c.requires.waits (computed c) c.requires.source c.requires.safe (omega arith) (words_are args size first second third)
+    c.unless_refused-transfer.ensures.are_bytes
 
 pub count-requires : goal.count-requires
 count-requires c =
     let at = (goal.at.count-requires c).After-unless_refused-transfer in
-    read_counts c.args.source.now c.args.at c.args.self.now c.args.call.now c.unless_refused-transfer.result.outcome
-    c.unless_refused-transfer.result.bytes.now c.requires.source c.requires.safe c.requires.waits (computed at)
-    (got at).form
+    read_counts c.requires.waits (computed at) c.requires.source c.requires.safe (got at).form
 
 pub add-requires : goal.add-requires
 add-requires c =
@@ -65,12 +61,8 @@ add-requires c =
 
 pub answer-requires-clause-answers : goal.answer-requires-clause-answers
 answer-requires-clause-answers c =
-    let at = (goal.at.answer-requires-clause-answers c).After-unless_refused-transfer in (
-      c.requires.waits.kind_is,
-      read_room c.args.source.now c.args.at c.args.self.now c.args.call.now
-          c.unless_refused-transfer.result.outcome c.unless_refused-transfer.result.bytes.now c.requires.waits
-          (computed at) (got at).form,
-    )
+    let at = (goal.at.answer-requires-clause-answers c).After-unless_refused-transfer in
+    (c.requires.waits.kind_is, λ some. (read_moves c.requires.waits (computed at) (got at).form some).held)
 
 pub returns : goal.returns
 returns c =
@@ -81,6 +73,4 @@ returns c =
     let adds : Adds c.args.self.now.tape (Read c.args.at c.args.call.now.args outcome bytes) c.add.new.self = rw same at
     c.in_ok-add.ensures in
     let after = rw same at c.answer.ensures in
-    read_records c.args.source.now c.args.at c.args.self.now c.args.call.now outcome bytes c.answer.new.self
-    c.count.new.counts c.add.new.self c.requires.waits (got (goal.at.returns c).After-unless_refused-transfer) after
-    c.count.ensures adds
+    read_records c.requires.waits (got (goal.at.returns c).After-unless_refused-transfer) after c.count.ensures adds

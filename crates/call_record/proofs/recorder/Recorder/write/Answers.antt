@@ -26,11 +26,7 @@ got c =
     let bytes_are : c.unless_refused-transfer.result.bytes.now
     ≡ bytes_of c.refusal-refusal.result c.written.result.now = rw (to_z-of_z w32 c.refusal-refusal.result f) at
     c.unless_refused-transfer.ensures.bytes in
-    write_got c.args.source.now c.args.at c.args.self.now c.args.call.now c.unless_refused-transfer.result.outcome
-    c.unless_refused-transfer.result.bytes.now
-    c.requires.safe (omega arith) c.requires.waits (words_are args size first second third)
-    c.unless_refused-transfer.ensures.are_bytes
-    (record {
+    write_got c.requires.waits (record {
       refused = c.refusal-refusal.result;
       channels = c.channels.result;
       part = c.written.result.now;
@@ -38,7 +34,7 @@ got c =
       part_is = c.written.ensures.part;
       outcome_is = outcome_is;
       bytes_are = bytes_are;
-    })
+    }) c.requires.safe (omega arith) (words_are args size first second third) c.unless_refused-transfer.ensures.are_bytes
 
 pub add-requires : goal.add-requires
 add-requires c =
@@ -55,5 +51,4 @@ returns c =
     let adds : Adds c.args.self.now.tape (Write c.args.at c.args.call.now.args outcome bytes) c.add.new.self = rw same
     at c.in_ok-add.ensures in
     let after = rw same at c.answer.ensures in
-    write_records c.args.source.now c.args.at c.args.self.now c.args.call.now outcome bytes c.answer.new.self
-    c.add.new.self c.requires.waits (got (goal.at.returns c).After-unless_refused-transfer) after adds
+    write_records c.requires.waits (got (goal.at.returns c).After-unless_refused-transfer) after adds

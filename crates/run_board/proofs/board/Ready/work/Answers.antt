@@ -1,4 +1,4 @@
-use Rattle.std.proofs.Common.{◌≡◌, ℕ, List, All, length, sym, ap, ◌∙◌, subst, arith}
+use Rattle.std.proofs.Common.{◌≡◌, ℕ, List, All, length, sym, ap, ◌∙◌, subst}
 use Rattle.run_board.specs.declared.view.WorkerView.{WorkerView}
 use Rattle.run_board.specs.Views.{filled, whole_share}
 use Rattle.run_board.specs.Rule.{view_weight, whole_weight}
@@ -28,50 +28,7 @@ returns-clause-ended g c = (answer g c).are_ended
 pub returns-clause-led : goal.returns-clause-led
 returns-clause-led g c = (answer g c).are_led
 
-pub fill-requires-clause-capacity : goal.fill-requires-clause-capacity
-fill-requires-clause-capacity g c κs within = c.self.invariant.1
-
-pub fill-requires-clause-pass : goal.fill-requires-clause-pass
-fill-requires-clause-pass g c κs within = c.self.invariant.2
-
-pub fill-requires-clause-numbers : goal.fill-requires-clause-numbers
-fill-requires-clause-numbers g c κs within = c.self.invariant.0
-
-pub fill-requires-clause-opening : goal.fill-requires-clause-opening
-fill-requires-clause-opening g c κs within = c.self.invariant.3
-
-pub make_pool-pool-requires-clause-count : goal.make_pool-pool-requires-clause-count
-make_pool-pool-requires-clause-count g c κs within = (c.self.invariant.4, c.self.invariant.5)
-
-pub make_pool-pool-requires-clause-lists : goal.make_pool-pool-requires-clause-lists
-make_pool-pool-requires-clause-lists g c κs within = c.self.invariant.6
-
-pub make_pool-pool-requires-clause-empty : goal.make_pool-pool-requires-clause-empty
-make_pool-pool-requires-clause-empty g c κs within = c.self.invariant.7
-
-pub make_pool-pool-requires-clause-room : goal.make_pool-pool-requires-clause-room
-make_pool-pool-requires-clause-room g c κs within = c.self.invariant.8
-
-pub make_pool-pool-requires-clause-pass : goal.make_pool-pool-requires-clause-pass
-make_pool-pool-requires-clause-pass g c κs within = c.fill.ensures.pass
-
 pub make_pool-pool-requires-clause-filled : goal.make_pool-pool-requires-clause-filled
 make_pool-pool-requires-clause-filled g c κs within =
     let told = c.fill.ensures.filled in
     told ∙ ap (λ (s : List g.row.T.Denot). filled whole_share s) (sym (ap (λ (v : WorkerView g.row.T.Denot). v.starts) told))
-
-pub make_pool-pool-requires-clause-few : goal.make_pool-pool-requires-clause-few
-make_pool-pool-requires-clause-few g c κs within =
-    omega (arith, ap (λ (v : WorkerView g.row.T.Denot). length v.starts) c.fill.ensures.filled, c.self.invariant.1, c.self.inside.tasks.ok)
-
-pub run_pool-worker-requires-clause-some : goal.run_pool-worker-requires-clause-some
-run_pool-worker-requires-clause-some g c κs within = c.make_pool-pool.ensures.some
-
-pub run_pool-worker-requires-clause-ready : goal.run_pool-worker-requires-clause-ready
-run_pool-worker-requires-clause-ready g c κs within = c.make_pool-pool.ensures.ready
-
-pub run_pool-worker-requires-clause-agree : goal.run_pool-worker-requires-clause-agree
-run_pool-worker-requires-clause-agree g c κs within = (_, c.make_pool-pool.ensures.starts)
-
-pub turn_until_empty-requires-clause-ready : goal.turn_until_empty-requires-clause-ready
-turn_until_empty-requires-clause-ready g c κs within = c.run_pool-worker.ensures.ready
