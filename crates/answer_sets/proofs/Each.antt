@@ -7,14 +7,21 @@ use Rattle.std.proofs.lemmas.List.{length-take-le, get_or-take}
 use Rattle.std.proofs.lemmas.Option.{slice_get_within, slice_get_read, slice_get-map, slice_get-get_or, get_or_from_slice_get}
 use Rattle.flow_model.specs.declared.Loc.{Loc}
 use Rattle.flow_model.specs.declared.SourceByte.{SourceByte}
+use Rattle.flow_model.proofs.Orders.{source_total}
+use Rattle.lists.proofs.Algebra.{union-nil}
+use Rattle.source_runs.specs.declared.runs.SourceRun.{SourceRun}
+use Rattle.source_runs.specs.Runs.{bytes_of}
 use Rattle.report_model.specs.Rows.{Row}
 use Rattle.epoch_model.specs.Join.{resolved, resolved_row}
 use Rattle.merge_log.specs.Log.{AreSets}
 use Rattle.taint_shadow.specs.Labels.{kind_of}
+use Rattle.taint_shadow.specs.declared.labels.Label.{Label}
+use Rattle.taint_shadow.specs.declared.labels.LabelKind.{LabelKind}
+use Rattle.taint_shadow.specs.declared.labels.LabelKind.TheVariants.{Run}
 use Rattle.taint_shadow.specs.declared.labels.SinkLabel.{SinkLabel}
 use Rattle.source_labels.specs.declared.nodes.Nodes.{Nodes}
 use Rattle.source_labels.specs.Laws.{terms_ascend}
-use Rattle.source_labels.specs.Words.{log_of, node_words}
+use Rattle.source_labels.specs.Words.{log_of, node_words, terms_by}
 use Rattle.epoch_summary.specs.Summaries.{named}
 
 -- a list of no length has no member
@@ -43,6 +50,12 @@ module _ (before : Loc → List SourceByte) (nodes : Nodes) (sinks : List SinkLa
 
 pub sets_of_label : (nodes : Nodes) (sinks : List SinkLabel) (i : ℕ) (d : SinkLabel) → AreSets (node_words.means nodes (get_or sinks i d).label)
 sets_of_label nodes sinks i d = terms_ascend (log_of nodes) (kind_of (get_or sinks i d).label)
+
+-- the source bytes of a label that is a run
+pub run_has : (before : Loc → List SourceByte) (nodes : Nodes) (label : Label) (run : SourceRun) → Run run ≡ kind_of label
+    → bytes_of run ≡ resolved before (node_words.means nodes label)
+run_has before nodes label run is =
+    sym (union-nil source_total (bytes_of run) (terms_ascend (log_of nodes) (Run run)).sources) ∙ ap (λ (k : LabelKind). resolved before (terms_by (log_of nodes) k)) is
 
 -- the last of the first i is the one before that of number i
 last_taken : {X : Type 0} (xs firsts : List X) (i : ℕ) (x : X) → firsts ≡ take i xs → i < length xs → slice_get firsts (length firsts - 1) ≡ Some x

@@ -15,7 +15,7 @@ use no_memory::NoMemory;
 use sink_collect::SinkSet;
 use source_ranges::SourceSet;
 use std::alloc::Global;
-use taint_shadow::SinkLabel;
+use taint_shadow::{LabelKind, SinkLabel};
 
 /// The rows of an epoch that asked this and had these answers, in the order of its sinks. It fails only where there is
 /// no memory.
@@ -64,8 +64,8 @@ pub fn rows_of_sinks(
     Ok(rows)
 }
 
-/// The row of the sink of this number, made after that of the one before it: with a copy of its source bytes where the
-/// two have one label.
+/// The row of the sink of this number, made after that of the one before it: with the source bytes of a run, where its label is
+/// one, and with a copy of those of the row before where the two have one label.
 fn row(
     alloc: Global,
     ahead: &mut TermsAhead,
@@ -87,6 +87,9 @@ fn row(
         slice_get (map (resolved_row (answer_to asked.now answers.now)) (map (named nodes.now) sinks.now)) number ≡ Some row) }
 {
     let SinkLabel { name, label } = sinks[number];
+    if let LabelKind::Run(run) = label.kind() {
+        return Ok(SinkSet::new(name, SourceSet::of_run(alloc, run)));
+    }
     if let Some(last) = before {
         if number > 0 && sinks[number - 1].label == label {
             let sources = last.sources().copied(alloc)?;

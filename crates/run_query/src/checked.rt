@@ -12,7 +12,7 @@ ghost use Rattle.run_query.specs.Parts.{IsEnough};
 
 use crate::answer::{answer_of_epochs, report_of};
 use crate::beginning::query_beginning;
-use crate::checking::{check_parts, check_whole};
+use crate::checking::check_parts;
 use crate::part::Part;
 use checkpoints::CheckpointTaker;
 use elf_image::Program;
@@ -22,6 +22,7 @@ use no_memory::NoMemory;
 use query_lang::Query;
 use replay_log::Log;
 use replayer::{CheckFault, Job};
+use seq_taint::check_whole;
 use sink_collect::Report;
 use std::alloc::Global;
 

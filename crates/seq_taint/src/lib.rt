@@ -2,10 +2,12 @@
 //! locations are labelled with source bytes alone: what stood anywhere at the run's start came from none.
 //!
 //! Crates above rest on this: `sequential` is the rows in the order of the run, each output byte and each point once.
-//! `watching` watches a run for them, also while its log is checked; `LabelledSinks::of` is then the sinks of the run,
-//! each with a label, and `LabelledSinks::rows` are their rows. `rows_are_distinct` is a law of all runs.
+//! `check_whole` finds the sinks of a run, each with a label, while its log is checked, and `LabelledSinks::rows` are their rows.
+//! `rows_are_distinct` is a law of all runs. What watches a run is told of its steps by a loop that is compiled for this crate alone:
+//! so the loop has the machine and the labels in its midst.
 #![tactic(auto)]
 
+mod checking;
 mod distinct;
 mod labelled;
 
@@ -16,6 +18,7 @@ ghost use Rattle.sink_collect.specs.Distinct.{AreDistinct};
 ghost use Rattle.source_labels.specs.Words.{label_words};
 ghost use Rattle.taint_tracking.specs.Watched.{HasBegun};
 
+pub use checking::check_whole;
 pub use distinct::rows_are_distinct;
 pub use labelled::LabelledSinks;
 use no_memory::NoMemory;
@@ -42,7 +45,7 @@ pub fn sequential(alloc: Global, job: &Job, query: &Query) -> Result<Vec<SinkSet
 }
 
 /// What watches a run from its first step on for the sinks of a query. It gives up with NoMemory alone.
-pub fn watching<'q>(alloc: Global, query: &'q Query) -> Result<Watching<'q, SourceLabels>, NoMemory>
+pub(crate) fn watching<'q>(alloc: Global, query: &'q Query) -> Result<Watching<'q, SourceLabels>, NoMemory>
     ensures { IfOk result (HasBegun label_words query.now) }
 {
     Watching::new(alloc, SourceLabels::new(alloc), query)

@@ -386,7 +386,7 @@ pub(crate) fn turn_by_store<A: Labels>(
 }
 
 /// Goes on by the flow of an instruction. Each flow that takes more than a copy is a function of its own, so that the loop
-/// over the steps holds no room for its labels.
+/// over the steps holds no room for its labels; loads and stores too, which such a loop turns by calls of their own.
 #[inline(always)]
 pub(crate) fn turn_by_shape<A: Labels>(
     labels: &mut A,
@@ -424,12 +424,12 @@ pub(crate) fn turn_by_shape<A: Labels>(
             place,
             size,
             fills,
-        } => turn_by_load(labels, places, rd, base, place, size, fills),
+        } => load_anywhere(labels, places, rd, base, place, size, fills),
         Shape::Store {
             rs,
             base,
             place,
             size,
-        } => turn_by_store(labels, places, rs, base, place, size),
+        } => store_by_base(labels, places, rs, base, place, size),
     }
 }

@@ -80,8 +80,9 @@ impl<'q, L: Labels + Drop> Tracking<'q, L> {
     }
 
     /// Turns the labels by an instruction that is neither a load, a store nor a call, and looks at no point. It gives up with
-    /// NoMemory alone.
-    #[inline(always)]
+    /// NoMemory alone. A loop of steps tells of such an instruction in two places, and calls this in both: it is too large to be
+    /// in its midst twice.
+    #[inline(never)]
     pub(crate) fn turn(&mut self, instr: &Instr) -> Result<(), NoMemory>
         requires fits { Fits instr.now }
         requires sound { IsSound L.words self.old }

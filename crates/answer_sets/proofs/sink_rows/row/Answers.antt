@@ -6,7 +6,7 @@ use Rattle.taint_shadow.specs.declared.labels.Label.{Label}
 use Rattle.taint_shadow.proofs.Alike.{same_label}
 use Rattle.source_labels.specs.Words.{node_words}
 use Rattle.epoch_summary.specs.Summaries.{named}
-use Rattle.answer_sets.proofs.Each.{row_at, row_has, sets_of_label}
+use Rattle.answer_sets.proofs.Each.{row_at, row_has, run_has, sets_of_label}
 use Rattle.answer_sets.proofs.sink_rows.row.Goals as goal
 
 pub returns-then-eq-clause-row : goal.returns-then-eq-clause-row
@@ -18,7 +18,13 @@ returns-then-eq-clause-row c =
     let at : slice_get (map (resolved_row before) (map (named nodes) sinks)) (c.args.number - 1) ≡ Some last =
     subst (λ o. IfSome o (λ row. slice_get (map (resolved_row before) (map (named nodes) sinks)) (c.args.number - 1) ≡ Some row.now)) c.in-Some.is c.requires.before in
     let has = row_has before nodes sinks (c.args.number - 1) _ last (omega (arith, c.requires.inside)) at ∙ ap (λ (l : Label). resolved before (node_words.means nodes l)) (same_label _ _ (sym c.if-eq.ensures)) in
-    row_at before nodes sinks c.args.number _ _ c.requires.inside (c.in_ok-sources.ensures ∙ c.sources.ensures.value ∙ has) ∙ ap Some (sym c.new.ensures)
+    row_at before nodes sinks c.args.number _ _ c.requires.inside (c.in_ok-sources.ensures ∙ c.sources.ensures.value ∙ has) ∙ ap Some (sym c.new-2.ensures)
+
+pub returns-in-Run-clause-row : goal.returns-in-Run-clause-row
+returns-in-Run-clause-row c =
+    let before = answer_to c.args.asked.now c.args.answers.now in
+    row_at before c.args.nodes.now c.args.sinks.now c.args.number _ _ c.requires.inside (c.of_run.ensures ∙ run_has before c.args.nodes.now _ c.in-Run.run (sym c.in-Run.is ∙ c.kind.ensures))
+    ∙ ap Some (sym c.new.ensures)
 
 pub sources_of-requires : goal.sources_of-requires
 sources_of-requires c = subst AreSets (sym c.in_ok-read_sink.ensures.read) (sets_of_label c.args.nodes.now c.args.sinks.now c.args.number _)
@@ -27,4 +33,4 @@ pub returns-clause-row : goal.returns-clause-row
 returns-clause-row c =
     let before = answer_to c.args.asked.now c.args.answers.now in
     row_at before c.args.nodes.now c.args.sinks.now c.args.number _ _ c.requires.inside (c.in_ok-sources-2.ensures ∙ ap (resolved before) c.in_ok-read_sink.ensures.read)
-    ∙ ap Some (sym c.new-2.ensures)
+    ∙ ap Some (sym c.new-3.ensures)

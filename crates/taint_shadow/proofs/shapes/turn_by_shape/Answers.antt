@@ -41,32 +41,32 @@ mix-requires-clause-registers g c = rw c.in-Mixed.is at c.requires.registers
 pub mix-requires-clause-standing : goal.mix-requires-clause-standing
 mix-requires-clause-standing g c = c.requires.standing
 
-pub turn_by_load-requires-clause-registers : goal.turn_by_load-requires-clause-registers
-turn_by_load-requires-clause-registers g c = rw c.in-Load.is at c.requires.registers
+pub load_anywhere-requires-clause-registers : goal.load_anywhere-requires-clause-registers
+load_anywhere-requires-clause-registers g c = rw c.in-Load.is at c.requires.registers
 
-pub turn_by_load-requires-clause-size : goal.turn_by_load-requires-clause-size
-turn_by_load-requires-clause-size g c = rw c.in-Load.is at c.requires.sizes
+pub load_anywhere-requires-clause-size : goal.load_anywhere-requires-clause-size
+load_anywhere-requires-clause-size g c = rw c.in-Load.is at c.requires.sizes
 
-pub turn_by_load-requires-clause-standing : goal.turn_by_load-requires-clause-standing
-turn_by_load-requires-clause-standing g c = c.requires.standing
+pub load_anywhere-requires-clause-standing : goal.load_anywhere-requires-clause-standing
+load_anywhere-requires-clause-standing g c = c.requires.standing
 
-pub turn_by_store-requires-clause-registers : goal.turn_by_store-requires-clause-registers
-turn_by_store-requires-clause-registers g c = rw c.in-Store.is at c.requires.registers
+pub store_by_base-requires-clause-registers : goal.store_by_base-requires-clause-registers
+store_by_base-requires-clause-registers g c = rw c.in-Store.is at c.requires.registers
 
-pub turn_by_store-requires-clause-size : goal.turn_by_store-requires-clause-size
-turn_by_store-requires-clause-size g c = rw c.in-Store.is at c.requires.sizes
+pub store_by_base-requires-clause-size : goal.store_by_base-requires-clause-size
+store_by_base-requires-clause-size g c = rw c.in-Store.is at c.requires.sizes
 
-pub turn_by_store-requires-clause-standing : goal.turn_by_store-requires-clause-standing
-turn_by_store-requires-clause-standing g c = c.requires.standing
+pub store_by_base-requires-clause-standing : goal.store_by_base-requires-clause-standing
+store_by_base-requires-clause-standing g c = c.requires.standing
 
 pub returns-in-Mixed : goal.returns-in-Mixed
 returns-in-Mixed g c = rw c.in-Mixed.is c.mix.ensures
 
 pub returns-in-Load : goal.returns-in-Load
-returns-in-Load g c = rw c.in-Load.is c.turn_by_load.ensures
+returns-in-Load g c = rw c.in-Load.is c.load_anywhere.ensures
 
 pub returns-in-Store : goal.returns-in-Store
-returns-in-Store g c = rw c.in-Store.is c.turn_by_store.ensures
+returns-in-Store g c = rw c.in-Store.is c.store_by_base.ensures
 
 -- nothing flows
 pub returns-in-Nothing : goal.returns-in-Nothing
