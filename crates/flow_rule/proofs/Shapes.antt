@@ -10,7 +10,7 @@ use Rattle.isa.specs.declared.Instr.{Instr}
 use Rattle.flow_model.specs.declared.Loc.{Loc}
 use Rattle.flow_model.specs.declared.Loc.TheVariants.{Reg}
 use Rattle.flow_model.specs.declared.Rule.{Rule}
-use Rattle.flow_model.specs.declared.Rule.TheVariants.{Copy, Keep, Compute, Index}
+use Rattle.flow_model.specs.declared.Rule.TheVariants.{Copy, Keep, Index}
 use Rattle.flow_model.specs.Flow as model
 use Rattle.flow_rule.specs.declared.shape.Shape.{Shape}
 use Rattle.flow_rule.specs.declared.shape.Shape.TheVariants.{Move, Mixed, Load, Store}
@@ -49,8 +49,7 @@ computed_row : {X : Type 0} (rule : Rule) (d : ℕ) (s : Shape) (f : ℕ → Lis
     → IsRow X (model.to_register d (model.computed rule f)) (computed_shape rule d s)
 computed_row Copy d s f small h = (refl, tt, small)
 computed_row Keep d s f small h = (refl, tt, small)
-computed_row Compute d s f small h = h
-computed_row Index d s f small h = h
+computed_row rule d s f small h = h
 
 pub mixed_row : (rule : Rule) (mixing : Mixing) (d a b : ℕ)
     → IsRow ((d < 32) × (a < 32) × (b < 32)) (model.to_register d (model.computed rule (mixed_lanes mixing a b))) (computed_shape rule d (Mixed mixing d a b))
@@ -70,8 +69,7 @@ kept_row : {X : Type 0} (rule : Rule) (d r : ℕ) (kept : Shuffle) (lanes : ℕ 
     → IsRow X (model.to_register d f) s → IsRow X (model.to_register d (model.kept_or_computed rule (lanes r) f)) (kept_or_computed_shape rule d r kept s)
 kept_row Copy d r kept lanes s f small few chosen h = (refl, tt, λ x. (small x).0)
 kept_row Keep d r kept lanes s f small few chosen h = (same_targets d (shuffled_lanes kept r) (lanes r) (chosen r), few, small)
-kept_row Compute d r kept lanes s f small few chosen h = h
-kept_row Index d r kept lanes s f small few chosen h = h
+kept_row rule d r kept lanes s f small few chosen h = h
 
 moved_row : {X : Type 0} (d a b : ℕ) (s : Shape) (f : ℕ → List Loc) → (X → (d < 32) × (a < 32) × (b < 32)) → IsRow X (model.to_register d f) s
     → IsRow X (model.to_register d (model.moved_or a b f)) (moved_shape_or d a b s)
@@ -87,28 +85,20 @@ pub moved_mixed_row : (rule : Rule) (mixing : Mixing) (d a b : ℕ)
 moved_mixed_row rule mixing d a b = moved_row d a b _ (model.computed rule (mixed_lanes mixing a b)) (λ f. f) (mixed_row rule mixing d a b)
 
 base_small : (rule : Rule) (a : ℕ) → a < 32 → base_of rule a < 32
-base_small Copy a h = omega arith
-base_small Keep a h = omega arith
-base_small Compute a h = omega arith
 base_small Index a h = h
+base_small rule a h = omega arith
 
 pub loaded_targets : (rule : Rule) (d a place n : ℕ) → targets_of (Load d (base_of rule a) place n false) ≡ model.to_register d (model.loaded_byte rule a place n)
 loaded_targets Copy d a place n = refl
-loaded_targets Keep d a place n = refl
-loaded_targets Compute d a place n = refl
-loaded_targets Index d a place n = refl
+loaded_targets rule d a place n = refl
 
 pub signed_targets : (rule : Rule) (d a place n : ℕ) → targets_of (Load d (base_of rule a) place n (fills_by rule)) ≡ model.to_register d (model.signed_load rule a place n)
 signed_targets Copy d a place n = refl
-signed_targets Keep d a place n = refl
-signed_targets Compute d a place n = refl
-signed_targets Index d a place n = refl
+signed_targets rule d a place n = refl
 
 pub stored_targets : (rule : Rule) (a b place n : ℕ) → targets_of (Store b (base_of rule a) place n) ≡ model.to_memory place n (λ i. model.with_base rule a (model.lane b i))
 stored_targets Copy a b place n = refl
-stored_targets Keep a b place n = refl
-stored_targets Compute a b place n = refl
-stored_targets Index a b place n = refl
+stored_targets rule a b place n = refl
 
 pub load_row : {X : Type 0} (rule : Rule) (d a place n : ℕ) → (1 ≤ n) × (n ≤ 4)
     → IsRow ((d < 32) × (a < 32) × X) (model.to_register d (model.loaded_byte rule a place n)) (Load d (base_of rule a) place n false)

@@ -41,8 +41,7 @@ origins_are = entry_is (λ t. t.origins)
 
 room_small : (origins : Origins) → room_of origins ≤ 8
 room_small (Same locs) = omega arith
-room_small (First locs) = omega arith
-room_small (Each lanes) = omega arith
+room_small origins = omega arith
 
 pub index_small : (targets : Targets) (origins : Origins) (xs : List Target) (i : ℕ) → count_of targets ≤ room_of origins → table_of targets origins ≡ xs → i < length xs → i < 8
 index_small targets origins xs i r e h = omega (arith, length_is targets origins xs e, room_small origins)

@@ -1,5 +1,5 @@
 -- Each arm's shape is the row of its instructions, by what the parts ensure.
-use Rattle.std.proofs.Common.{arith, rules, ap, ◌∙◌, refl, inl, inr, [], ◌∷◌, ◌<◌}
+use Rattle.std.proofs.Common.{arith, rules, ap, ◌∙◌, inl, inr, [], ◌∷◌, ◌<◌}
 use Rattle.flow_model.specs.Flow as model
 use Rattle.isa.specs.declared.Instr.TheVariants.{Sub, Mul, Mulh, Mulhsu, Mulhu, Div, Divu, Rem, Remu, Or, Xor, Srli, Srai, Sll, Srl, Sra, Slt, Sltu}
 use Rattle.flow_rule.specs.declared.shape.Mixing.TheVariants.{EachLane, AllLanes, ShiftedLanes, FirstLane}
