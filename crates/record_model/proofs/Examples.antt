@@ -40,41 +40,26 @@ abbrev whole : List CallRecord
 whole = Read 5 (args 0) (pos 4) (0x41 ∷ 0x42 ∷ 0x43 ∷ 0x44 ∷ []) ∷ Write 8 (args 1) (pos 4)
     (0x41 ∷ 0x42 ∷ 0x43 ∷ 0x44 ∷ []) ∷ []
 
-whole_agrees : Agrees 1 whole (Exit 11 0)
-whole_agrees = refl
-
-whole_reads : AllReadNext (input ∷ []) 16777216 [] whole
-whole_reads = (refl, (tt, tt))
-
-whole_ends : EndsWithin 12 (Exit 11 0)
-whole_ends = omega arith
+of_whole : Agrees 1 whole (Exit 11 0) × AllReadNext (input ∷ []) 16777216 [] whole × EndsWithin 12 (Exit 11 0)
+of_whole = (refl, (refl, (tt, tt)), omega arith)
 
 -- a piece of two bytes
 abbrev in_pieces : List CallRecord
 in_pieces = Read 5 (args 0) (pos 2) (0x41 ∷ 0x42 ∷ []) ∷ Write 8 (args 1) (pos 4) (0x41 ∷ 0x42 ∷ 0 ∷ 0 ∷ []) ∷ []
 
-pieces_agree : Agrees 1 in_pieces (Exit 11 0)
-pieces_agree = refl
-
-pieces_read : AllReadNext (input ∷ []) 2 [] in_pieces
-pieces_read = (refl, (tt, tt))
+of_pieces : Agrees 1 in_pieces (Exit 11 0) × AllReadNext (input ∷ []) 2 [] in_pieces
+of_pieces = (refl, (refl, (tt, tt)))
 
 -- without inputs the read is refused
 abbrev refused : List CallRecord
 refused = Read 5 (args 0) (negsuc 8) [] ∷ Write 8 (args 1) (pos 4) (0 ∷ 0 ∷ 0 ∷ 0 ∷ []) ∷ []
 
-refused_agrees : Agrees 0 refused (Exit 11 0)
-refused_agrees = refl
-
-refused_reads : AllReadNext [] 16777216 [] refused
-refused_reads = (tt, (tt, tt))
+of_refused : Agrees 0 refused (Exit 11 0) × AllReadNext [] 16777216 [] refused
+of_refused = (refl, (tt, (tt, tt)))
 
 -- cut off before the read
-cut_agrees : Agrees 1 [] (Limit 5)
-cut_agrees = refl
-
-cut_ends : EndsWithin 5 (Limit 5)
-cut_ends = refl
+cut : Agrees 1 [] (Limit 5) × EndsWithin 5 (Limit 5)
+cut = (refl, refl)
 
 -- a second read goes on where the first stopped, also on another channel between
 abbrev twice : List CallRecord

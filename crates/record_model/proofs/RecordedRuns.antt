@@ -13,7 +13,7 @@ use Rattle.isa.specs.Calls.{channel_of, length_of}
 use Rattle.log_model.specs.declared.CallRecord.{CallRecord}
 use Rattle.log_model.specs.declared.RunEnd.{RunEnd}
 use Rattle.log_model.specs.declared.RunEnd.TheVariants.{Exit, Trap, Limit}
-use Rattle.log_model.specs.Logs.{Log, IsBytes, IsRecord, IsEnd, Rise, least_after, end_at}
+use Rattle.log_model.specs.Logs.{Log, IsBytes, IsRecord, IsEnd, end_at}
 use Rattle.log_model.specs.Moved.{received}
 use Rattle.log_model.proofs.Words.{IsBytes-each, IsBytes-take, IsBytes-drop, word_below}
 use Rattle.elf_model.specs.Image.{image, e_entry}
@@ -22,9 +22,9 @@ use Rattle.replay_model.specs.Comparison.{arguments_of, CallOf, kept_event, call
 use Rattle.replay_model.specs.Fits.{start_in_image}
 use Rattle.sha2.specs.Sha256.{sha256, digest_bytes}
 use Rattle.sha2.proofs.Facts256.{length-sha256}
-use Rattle.record_model.proofs.Sound.{AreBytes, window_bytes}
+use Rattle.record_model.proofs.Sound.{window_bytes}
 use Rattle.record_model.proofs.Beginning.{begins}
-use Rattle.record_model.specs.Recorded.{Setting, CanRecord, Recording, AllReadNext, EndsWithin, clock_values, clock_values_of, part_of, input_of}
+use Rattle.record_model.specs.Recorded.{Setting, CanRecord, Recording, EndsWithin, clock_values, clock_values_of, part_of, input_of}
 use Rattle.record_model.specs.Calls.{bytes_of}
 use Rattle.record_model.proofs.Calls.{Moves, next_record, next_here, part_few, read_form, write_form}
 use Rattle.record_model.proofs.Pushes.{values_push}
@@ -93,53 +93,32 @@ module _ (st : Setting) (clock : ℕ → ℕ) (can : CanRecord st) (small : (k :
 
   -- ---- a run to its end
 
-  -- the records and the end of a run from a state
-  record RecordedRun (start : State) : Type 0 where
-    asked : ℕ
-    records : List CallRecord
-    end : RunEnd
-    form : AllByRecursion IsRecord records
-    rise : Rise 0 records
-    ends_after : least_after 0 records ≤ end_at end
-    reads : AllReadNext st.inputs st.piece [] records
-    values : clock_values records ≡ map clock (range_with_len 0 asked)
-    is_end : IsEnd end
-    within : EndsWithin st.steps end
-    agrees : EndsSo start st.inputs st.piece records end
-
   -- after these calls, in which the clock answered n times
   record IsAt (start : State) (n : ℕ) (done : List CallRecord) (t : ℕ) (s : State) : Type 0 where
     runs : RunsTo start st.inputs st.piece done t s
     reached : IsReached s
     values : clock_values done ≡ map clock (range_with_len 0 n)
 
+  -- the records and the end of a run from a state
+  record RecordedRun (start : State) : Type 0 where
+    asked : ℕ
+    records : List CallRecord
+    end : RunEnd
+    last : State
+    at_end : IsAt start asked records (end_at end) last
+    is_end : IsEnd end
+    within : EndsWithin st.steps end
+    agrees : EndsSo start st.inputs st.piece records end
+
   -- a run is found k steps before all are done
   abbrev IsRecordedFrom : State → ℕ → Type 0
   IsRecordedFrom start k = (n t : ℕ) (done : List CallRecord) (s : State) → t + k ≡ st.steps → IsAt start n done t s → RecordedRun start
 
-  ended : (start : State) (n t : ℕ) (done : List CallRecord) (s : State) (end : RunEnd) → IsAt start n done t s → end_at end ≡ t → IsEnd end → EndsWithin st.steps end
-      → EndsSo start st.inputs st.piece done end → RecordedRun start
-  ended start n t done s end at here is_end within agrees =
-      let before = at.runs.before in
-      record {
-        asked = n;
-        records = done;
-        end = end;
-        form = at.runs.form;
-        rise = at.runs.rise;
-        ends_after = omega arith;
-        reads = at.runs.reads;
-        values = at.values;
-        is_end = is_end;
-        within = within;
-        agrees = agrees;
-      }
-
   cut : (start : State) → IsRecordedFrom start 0
   cut start n t done s e at =
       let most = can.steps in
-      let all : t ≡ st.steps = omega arith in
-      ended start n t done s (Limit t) at refl (omega arith) all (runs_cut start st.inputs st.piece done t s at.runs)
+      let agrees = runs_cut start st.inputs st.piece done t s at.runs in
+      record { asked = n; records = done; end = Limit t; last = s; at_end = at; is_end = omega arith; within = omega arith; agrees = agrees }
 
   -- how often the clock was asked after a call
   abbrev asked_after : CallKind → ℕ → ℕ
@@ -172,9 +151,10 @@ module _ (st : Setting) (clock : ℕ → ℕ) (can : CanRecord st) (small : (k :
       → next s ≡ Called (call_of s) → RecordedRun start
   called start k later n t done s kind.Exit is e at calls =
       let most = can.steps in
-      let early : t < st.steps = omega arith in
-      ended start n t done s (Exit t (reg s 10)) at refl (omega arith, at.reached.sound.words 10) early
-      (runs_end start st.inputs st.piece done t s (Exit t (reg s 10)) (refl, calls, is, refl) at.runs)
+      let end = Exit t (reg s 10) in
+      let agrees = runs_end start st.inputs st.piece done t s end (refl, calls, is, refl) at.runs in
+      let small = at.reached.sound.words 10 in
+      record { asked = n; records = done; end = end; last = s; at_end = at; is_end = (omega arith, small); within = omega arith; agrees = agrees }
   called start k later n t done s c is e at calls = answered start k later n t done s c e at calls (ap call_event is)
 
   stepped : (start : State) (k : ℕ) → IsRecordedFrom start k → (n t : ℕ) (done : List CallRecord) (s : State) (o : Outcome) → next s ≡ o → t + suc k ≡ st.steps → IsAt start n done t s → RecordedRun start
@@ -185,9 +165,10 @@ module _ (st : Setting) (clock : ℕ → ℕ) (can : CanRecord st) (small : (k :
       called start k later n t done s (call_of s).kind refl e at (o ∙ ap (λ (c : Call). Called c) (is_fine s (Called call) o))
   stepped start k later n t done s (Trapped code) o e at =
       let most = can.steps in
-      let early : t < st.steps = omega arith in
-      ended start n t done s (Trap t code s.pc) at refl (omega arith, is_fine s (Trapped code) o, at.reached.pc) early
-      (runs_end start st.inputs st.piece done t s (Trap t code s.pc) (refl, o, refl) at.runs)
+      let end = Trap t code s.pc in
+      let agrees = runs_end start st.inputs st.piece done t s end (refl, o, refl) at.runs in
+      let form : IsEnd end = (omega arith, is_fine s (Trapped code) o, at.reached.pc) in
+      record { asked = n; records = done; end = end; last = s; at_end = at; is_end = form; within = omega arith; agrees = agrees }
 
   found : (start : State) (k : ℕ) → IsRecordedFrom start k
   found start zero n t done s e at = cut start n t done s e at
@@ -212,16 +193,16 @@ module _ (st : Setting) (clock : ℕ → ℕ) (can : CanRecord st) (small : (k :
             inputs = can.channels;
             digest = length-sha256 st.program;
             digest_bytes = sha256_bytes st.program;
-            records = f.form;
+            records = f.at_end.runs.form;
             end = f.is_end;
-            rise = f.rise;
-            ends_after = f.ends_after;
+            rise = f.at_end.runs.rise;
+            ends_after = f.at_end.runs.before;
           };
           has_pages = refl;
           has_channels = refl;
           fits = record { start = start; digest = refl; begins = begun; agrees = f.agrees log refl refl refl };
-          reads_inputs = f.reads;
-          has_answers = f.values;
+          reads_inputs = f.at_end.runs.reads;
+          has_answers = f.at_end.values;
           ends_within = f.within;
         };
       }

@@ -190,41 +190,23 @@ immediate_range w i e = by (funct3 w % 4 == 1) e
 one_row : (make : ℕ → Instr) → MakesInRange make → RowInRange (λ w. Some (make w))
 one_row make h w i e = let same : make w ≡ i = cc in subst InRange same (h w)
 
+-- a row of a table by a key of the word
+table_range : (table : List (ℕ × (ℕ → Instr))) → AllByRecursion (λ row. MakesInRange row.1) table → (key : ℕ → ℕ) → RowInRange (λ w. looked_up table (key w) w)
+table_range table h key w i e = looked table h (key w) w i e
+
 opcodes_range : AllByRecursion (λ row. RowInRange row.1) opcodes
-opcodes_range = (
-  one_row (λ w. Lui (rd w) (imm_u w)) (search ranges),
-  (
-    one_row (λ w. Auipc (rd w) (imm_u w)) (search ranges),
-    (
-      one_row (λ w. Jal (rd w) (imm_j w)) (search ranges),
-      (
-        λ w. looked jumps (search ranges parts 40) (funct3 w) w,
-        (
-          λ w. looked branches (search ranges parts 40) (funct3 w) w,
-          (
-            λ w. looked loads (search ranges parts 40) (funct3 w) w,
-            (
-              λ w. looked stores (search ranges parts 40) (funct3 w) w,
-              (
-                immediate_range,
-                (
-                  λ w. looked operations (search ranges parts 40) (funct7_funct3 w) w,
-                  (
-                    λ w. looked fences (search ranges parts 40) (funct3 w) w,
-                    (
-                      λ w. looked systems (search ranges parts 40) w w,
-                      tt,
-                    ),
-                  ),
-                ),
-              ),
-            ),
-          ),
-        ),
-      ),
-    ),
-  ),
-)
+opcodes_range =
+    let lui = one_row (λ w. Lui (rd w) (imm_u w)) (search ranges) in
+    let auipc = one_row (λ w. Auipc (rd w) (imm_u w)) (search ranges) in
+    let jal = one_row (λ w. Jal (rd w) (imm_j w)) (search ranges) in
+    let jumped = table_range jumps (search ranges parts 40) funct3 in
+    let branched = table_range branches (search ranges parts 40) funct3 in
+    let loaded = table_range loads (search ranges parts 40) funct3 in
+    let stored = table_range stores (search ranges parts 40) funct3 in
+    let computed = table_range operations (search ranges parts 40) funct7_funct3 in
+    let fenced = table_range fences (search ranges parts 40) funct3 in
+    let called = table_range systems (search ranges parts 40) (λ w. w) in
+    (lui, (auipc, (jal, (jumped, (branched, (loaded, (stored, (immediate_range, (computed, (fenced, (called, tt)))))))))))
 
 row_found : (o : Option (ℕ → Option Instr)) (w : ℕ) (i : Instr) → ((row : ℕ → Option Instr) → o ≡ Some row → RowInRange row) → option_and_then (λ row. row w) o ≡ Some i → InRange i
 row_found None w i h e = cc
