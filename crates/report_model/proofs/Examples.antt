@@ -38,20 +38,13 @@ other_ends = refl
 abbrev AllRefused : QueryKind → List String → Type 0
 AllRefused kind lines = map (λ line. query (codes line)) lines ≡ map (λ line. Err (1, kind)) lines
 
-wrong_words : AllRefused Word ("rule keeps" ∷ "rule cop" ∷ "rule x y" ∷ "sink mem 5 4 on 7" ∷ "sink mem 5 at 7" ∷ "sink reg 5 7 at 9" ∷ [])
-wrong_words = refl
-
-wrong_counts : AllRefused Count ("rule copy x" ∷ "rule" ∷ "source all 1 2" ∷ "source 0 5" ∷ "sink mem" ∷ "sink reg" ∷ "sink mem 5 4 at" ∷ "sink reg 5" ∷ "sink mem x 4 at 7 8" ∷ "sink reg 0 at 7 8" ∷ [])
-wrong_counts = refl
-
-wrong_numbers : AllRefused Number ("source al" ∷ "source 0 5 4294967296" ∷ "sink mem x 0 at 7" ∷ "sink mem 5 4 at 1099511627777" ∷ "sink reg 0 at 00000000000001" ∷ "sink reg x1 at 7" ∷ "source mem" ∷ [])
-wrong_numbers = refl
-
-wrong_channels : AllRefused Channel ("sink 16 3 2" ∷ "sink 16" ∷ [])
-wrong_channels = refl
-
-wrong_ranges : AllRefused Range ("sink reg 0 at 5" ∷ "sink reg 32 at 5" ∷ "sink mem 5 0 at 7" ∷ "sink mem 5 65537 at 7" ∷ "sink mem 4294967295 2 at 7" ∷ [])
-wrong_ranges = refl
+refused :
+    AllRefused Word ("rule keeps" ∷ "rule cop" ∷ "rule x y" ∷ "sink mem 5 4 on 7" ∷ "sink mem 5 at 7" ∷ "sink reg 5 7 at 9" ∷ [])
+    × AllRefused Count ("rule copy x" ∷ "rule" ∷ "source all 1 2" ∷ "source 0 5" ∷ "sink mem" ∷ "sink reg" ∷ "sink mem 5 4 at" ∷ "sink reg 5" ∷ "sink mem x 4 at 7 8" ∷ "sink reg 0 at 7 8" ∷ [])
+    × AllRefused Number ("source al" ∷ "source 0 5 4294967296" ∷ "sink mem x 0 at 7" ∷ "sink mem 5 4 at 1099511627777" ∷ "sink reg 0 at 00000000000001" ∷ "sink reg x1 at 7" ∷ "source mem" ∷ [])
+    × AllRefused Channel ("sink 16 3 2" ∷ "sink 16" ∷ [])
+    × AllRefused Range ("sink reg 0 at 5" ∷ "sink reg 32 at 5" ∷ "sink mem 5 0 at 7" ∷ "sink mem 5 65537 at 7" ∷ "sink mem 4294967295 2 at 7" ∷ [])
+refused = (refl, refl, refl, refl, refl)
 
 second_lines : map (λ line. query (of_lines ("rule copy" ∷ line ∷ []))) ("sink 1 3 2" ∷ "rule copy" ∷ []) ≡ Err (2, Range) ∷ Err (2, SecondRule) ∷ []
 second_lines = refl
@@ -73,19 +66,16 @@ second_line line = query (of_lines ("rule copy" ∷ line ∷ []))
 abbrev of_points : List InnerSink → Query
 of_points points = record { rule = Copy; sources = []; sinks = []; points = points }
 
-memory_point : second_line "sink mem 4096 2 at 7" ≡ Ok (of_points (record { time = 7; loc = Mem 4096 } ∷ record { time = 7; loc = Mem 4097 } ∷ []))
-memory_point = refl
-
-four_lanes : second_line "sink reg 5 at 0" ≡ Ok (of_points (record { time = 0; loc = Reg 5 0 } ∷ record { time = 0; loc = Reg 5 1 } ∷ record { time = 0; loc = Reg 5 2 } ∷ record { time = 0; loc = Reg 5 3 } ∷ []))
-four_lanes = refl
+some_points :
+    (second_line "sink mem 4096 2 at 7" ≡ Ok (of_points (record { time = 7; loc = Mem 4096 } ∷ record { time = 7; loc = Mem 4097 } ∷ [])))
+    × (second_line "sink reg 5 at 0" ≡ Ok (of_points (record { time = 0; loc = Reg 5 0 } ∷ record { time = 0; loc = Reg 5 1 } ∷ record { time = 0; loc = Reg 5 2 } ∷ record { time = 0; loc = Reg 5 3 } ∷ [])))
+    × (second_line "sink mem 4294967295 1 at 1099511627776" ≡ Ok (of_points (record { time = 1099511627776; loc = Mem 4294967295 } ∷ [])))
+some_points = (refl, refl, refl)
 
 -- points of both kinds beside output bytes: by time, registers before memory, and what two lines choose once
 both_kinds : query (of_lines ("rule copy" ∷ "sink mem 9 2 at 3" ∷ "sink all" ∷ "sink mem 8 2 at 3" ∷ "sink reg 31 at 3" ∷ "sink mem 0 1 at 2" ∷ []))
     ≡ Ok (record { rule = Copy; sources = []; sinks = everything ∷ []; points = points_of_memory 0 1 2 ++ points_of_register 31 3 ++ points_of_memory 8 3 3 })
 both_kinds = refl
-
-last_byte_and_time : second_line "sink mem 4294967295 1 at 1099511627776" ≡ Ok (of_points (record { time = 1099511627776; loc = Mem 4294967295 } ∷ []))
-last_byte_and_time = refl
 
 names : map point_text (Out (record { channel = 1; offset = 20 }) ∷ At (record { time = 30; loc = Mem 4096 }) ∷ At (record { time = 30; loc = Reg 5 2 }) ∷ []) ≡ map codes ("1:20" ∷ "m:4096@30" ∷ "r:5.2@30" ∷ [])
 unfolding digits
