@@ -25,15 +25,15 @@ done i x5 x6 = let s = hart 0x10000 x5 x6 0 bytes in execute s (effect_of s i)
 abbrev Row : Type 0 → Type 0
 Row A = Instr × ℕ × ℕ × A
 
-abbrev all_done : {A : Type 0} → List (Row A) → List Outcome
-all_done rows = map (λ row. done row.0 row.1 row.2) rows
+-- each leaves what is said of its row
+abbrev Each : {A : Type 0} → (Row A → Outcome) → List (Row A) → Type 0
+Each leaves rows = map (λ row. done row.0 row.1 row.2) rows ≡ map leaves rows
 
 -- "Integer Computational Instructions": the result goes to x7, and the pc moves on
-abbrev results : List (Row ℕ) → List Outcome
-results rows = map (λ row. Retired (hart 0x10004 row.1 row.2 row.3 bytes)) rows
+abbrev result : Row ℕ → Outcome
+result row = Retired (hart 0x10004 row.1 row.2 row.3 bytes)
 
-abbrev on_immediates : List (Row ℕ)
-on_immediates =
+on_immediates : Each result (
     (Lui 7 (pos 0x12345000), 0, 0, 0x12345000) ∷
     (Lui 7 (minus 0x80000000), 0, 0, 0x80000000) ∷
     (Lui 7 (minus 0x1000), 0, 0, 0xfffff000) ∷
@@ -67,13 +67,10 @@ on_immediates =
     (Srli 7 5 31, 0x80000000, 0, 1) ∷
     (Srai 7 5 4, 0x80000018, 0, 0xf8000001) ∷
     (Srai 7 5 31, 0x80000000, 0, 0xffffffff) ∷
-    (Srai 7 5 4, 0x40000000, 0, 0x04000000) ∷ []
+    (Srai 7 5 4, 0x40000000, 0, 0x04000000) ∷ [])
+on_immediates = refl
 
-on_immediates_done : all_done on_immediates ≡ results on_immediates
-on_immediates_done = refl
-
-abbrev on_registers : List (Row ℕ)
-on_registers =
+on_registers : Each result (
     (Add 7 5 6, 0xffffffff, 2, 1) ∷
     (Add 7 5 6, 0x7fffffff, 1, 0x80000000) ∷
     (Add 7 0 6, 9, 8, 8) ∷
@@ -99,14 +96,11 @@ on_registers =
     (Sra 7 5 6, 0x80000018, 36, 0xf8000001) ∷
     (Sra 7 5 6, 0x7fffffff, 31, 0) ∷
     (Or 7 5 6, 0xff00ff00, 0x0ff00ff0, 0xfff0fff0) ∷
-    (And 7 5 6, 0xff00ff00, 0x0ff00ff0, 0x0f000f00) ∷ []
-
-on_registers_done : all_done on_registers ≡ results on_registers
-on_registers_done = refl
+    (And 7 5 6, 0xff00ff00, 0x0ff00ff0, 0x0f000f00) ∷ [])
+on_registers = refl
 
 -- "Multiplication Operations"
-abbrev products : List (Row ℕ)
-products =
+products : Each result (
     (Mul 7 5 6, 7, 6, 42) ∷
     (Mul 7 5 6, 0xffffffff, 3, 0xfffffffd) ∷
     (Mul 7 5 6, 0x10001, 0x10000, 0x10000) ∷
@@ -122,14 +116,11 @@ products =
     (Mulhsu 7 5 6, 0x7fffffff, 0x80000000, 0x3fffffff) ∷
     (Mulhu 7 5 6, 0xffffffff, 0xffffffff, 0xfffffffe) ∷
     (Mulhu 7 5 6, 0x80000000, 2, 1) ∷
-    (Mulhu 7 5 6, 0xffff, 0x10000, 0) ∷ []
-
-products_done : all_done products ≡ results products
-products_done = refl
+    (Mulhu 7 5 6, 0xffff, 0x10000, 0) ∷ [])
+products = refl
 
 -- "Division Operations", and its table of division by zero and overflow
-abbrev quotients : List (Row ℕ)
-quotients =
+quotients : Each result (
     (Div 7 5 6, 7, 2, 3) ∷
     (Div 7 5 6, 0xfffffff9, 2, 0xfffffffd) ∷
     (Div 7 5 6, 7, 0xfffffffe, 0xfffffffd) ∷
@@ -140,13 +131,10 @@ quotients =
     (Divu 7 5 6, 0xfffffff9, 2, 0x7ffffffc) ∷
     (Divu 7 5 6, 7, 0xfffffffe, 0) ∷
     (Divu 7 5 6, 7, 0, 0xffffffff) ∷
-    (Divu 7 5 6, 0x80000000, 0xffffffff, 0) ∷ []
+    (Divu 7 5 6, 0x80000000, 0xffffffff, 0) ∷ [])
+quotients = refl
 
-quotients_done : all_done quotients ≡ results quotients
-quotients_done = refl
-
-abbrev remainders : List (Row ℕ)
-remainders =
+remainders : Each result (
     (Rem 7 5 6, 7, 2, 1) ∷
     (Rem 7 5 6, 0xfffffff9, 2, 0xffffffff) ∷
     (Rem 7 5 6, 7, 0xfffffffe, 1) ∷
@@ -158,14 +146,11 @@ remainders =
     (Remu 7 5 6, 0xfffffff9, 2, 1) ∷
     (Remu 7 5 6, 7, 0xfffffffe, 7) ∷
     (Remu 7 5 6, 7, 0, 7) ∷
-    (Remu 7 5 6, 0x80000000, 0xffffffff, 0x80000000) ∷ []
-
-remainders_done : all_done remainders ≡ results remainders
-remainders_done = refl
+    (Remu 7 5 6, 0x80000000, 0xffffffff, 0x80000000) ∷ [])
+remainders = refl
 
 -- "Load and Store Instructions": x5 has the base address. LW and the others may be misaligned
-abbrev loads : List (Row ℕ)
-loads =
+loads : Each result (
     (Lb 7 5 (pos 1), 0x400, 0, 0xffffff80) ∷
     (Lb 7 5 (pos 2), 0x400, 0, 0x7f) ∷
     (Lbu 7 5 (pos 1), 0x400, 0, 0x80) ∷
@@ -178,28 +163,22 @@ loads =
     (Lw 7 5 (minus 4), 0x408, 0, 0x33449222) ∷
     (Lw 7 5 (pos 1), 0x400, 0, 0x22ff7f80) ∷
     (Lw 7 5 (pos 0x410), 0xfffffff0, 0, 0xff7f8011) ∷
-    (Lw 0 5 (pos 0), 0x400, 0, 0) ∷ []
-
-loads_done : all_done loads ≡ results loads
-loads_done = refl
+    (Lw 0 5 (pos 0), 0x400, 0, 0) ∷ [])
+loads = refl
 
 -- x5 has the base address, x6 the value
-abbrev stores : List (Row (List ℕ))
-stores =
+stores : Each (λ row. Retired (hart 0x10004 row.1 row.2 0 row.3)) (
     (Sb 5 6 (pos 2), 0x400, 0x12345678, 0x11 ∷ 0x80 ∷ 0x78 ∷ 0xff ∷ 0x22 ∷ 0x92 ∷ 0x44 ∷ 0x33 ∷ []) ∷
     (Sb 5 6 (minus 1), 0x408, 0x1234, 0x11 ∷ 0x80 ∷ 0x7f ∷ 0xff ∷ 0x22 ∷ 0x92 ∷ 0x44 ∷ 0x34 ∷ []) ∷
     (Sh 5 6 (pos 2), 0x400, 0x12345678, 0x11 ∷ 0x80 ∷ 0x78 ∷ 0x56 ∷ 0x22 ∷ 0x92 ∷ 0x44 ∷ 0x33 ∷ []) ∷
     (Sh 5 6 (pos 3), 0x400, 0xabcd, 0x11 ∷ 0x80 ∷ 0x7f ∷ 0xcd ∷ 0xab ∷ 0x92 ∷ 0x44 ∷ 0x33 ∷ []) ∷
     (Sw 5 6 (pos 2), 0x400, 0x12345678, 0x11 ∷ 0x80 ∷ 0x78 ∷ 0x56 ∷ 0x34 ∷ 0x12 ∷ 0x44 ∷ 0x33 ∷ []) ∷
     (Sw 5 6 (pos 0x414), 0xfffffff0, 0x87654321, 0x11 ∷ 0x80 ∷ 0x7f ∷ 0xff ∷ 0x21 ∷ 0x43 ∷ 0x65 ∷ 0x87 ∷ []) ∷
-    (Sw 5 0 (pos 0), 0x400, 9, 0 ∷ 0 ∷ 0 ∷ 0 ∷ 0x22 ∷ 0x92 ∷ 0x44 ∷ 0x33 ∷ []) ∷ []
-
-stores_done : all_done stores ≡ map (λ row. Retired (hart 0x10004 row.1 row.2 0 row.3)) stores
-stores_done = refl
+    (Sw 5 0 (pos 0), 0x400, 9, 0 ∷ 0 ∷ 0 ∷ 0 ∷ 0x22 ∷ 0x92 ∷ 0x44 ∷ 0x33 ∷ []) ∷ [])
+stores = refl
 
 -- "Conditional Branches": the pc after them. One that isn't taken may have any target
-abbrev branches : List (Row ℕ)
-branches =
+branches : Each (λ row. Retired (hart row.3 row.1 row.2 0 bytes)) (
     (Beq 5 6 (pos 16), 7, 7, 0x10010) ∷
     (Beq 5 6 (pos 16), 7, 8, 0x10004) ∷
     (Beq 0 0 (minus 4096), 7, 8, 0xf000) ∷
@@ -217,14 +196,11 @@ branches =
     (Bltu 5 6 (pos 16), 7, 7, 0x10004) ∷
     (Bgeu 5 6 (pos 16), 0xffffffff, 1, 0x10010) ∷
     (Bgeu 5 6 (pos 16), 1, 0xffffffff, 0x10004) ∷
-    (Bgeu 5 6 (pos 16), 7, 7, 0x10010) ∷ []
-
-branches_done : all_done branches ≡ map (λ row. Retired (hart row.3 row.1 row.2 0 bytes)) branches
-branches_done = refl
+    (Bgeu 5 6 (pos 16), 7, 7, 0x10010) ∷ [])
+branches = refl
 
 -- "Unconditional Jumps": the pc after them, and the address of the next instruction in x7
-abbrev jumps : List (Row ℕ)
-jumps =
+jumps : Each (λ row. Retired (hart row.3 row.1 row.2 0x10004 bytes)) (
     (Jal 7 (pos 8), 9, 9, 0x10008) ∷
     (Jal 7 (pos 0xffffc), 9, 9, 0x10fffc) ∷
     (Jal 7 (minus 0x10004), 9, 9, 0xfffffffc) ∷
@@ -232,10 +208,8 @@ jumps =
     (Jalr 7 5 (pos 5), 0x2000, 9, 0x2004) ∷
     (Jalr 7 5 (minus 4), 0x2001, 9, 0x1ffc) ∷
     (Jalr 7 5 (pos 8), 0xfffffffc, 9, 4) ∷
-    (Jalr 7 0 (minus 4), 0x2001, 9, 0xfffffffc) ∷ []
-
-jumps_done : all_done jumps ≡ map (λ row. Retired (hart row.3 row.1 row.2 0x10004 bytes)) jumps
-jumps_done = refl
+    (Jalr 7 0 (minus 4), 0x2001, 9, 0xfffffffc) ∷ [])
+jumps = refl
 
 -- a jump that links x0 sets no register, and one may link the register that it jumps by
 link_nothing : done (Jal 0 (minus 4)) 9 9 ≡ Retired (hart 0xfffc 9 9 0 bytes)
@@ -245,8 +219,7 @@ link_its_base : done (Jalr 5 5 (pos 4)) 0x2000 9 ≡ Retired (hart 0x2004 0x1000
 link_its_base = refl
 
 -- the exception codes of instructions that trap
-abbrev traps : List (Row ℕ)
-traps =
+traps : Each (λ row. Trapped row.3) (
     (Jal 7 (pos 2), 0, 0, 0) ∷
     (Jalr 7 5 (pos 2), 0x2000, 0, 0) ∷
     (Jalr 7 5 (pos 3), 0x2000, 0, 0) ∷
@@ -263,10 +236,8 @@ traps =
     (Sb 5 6 (pos 8), 0x400, 1, 7) ∷
     (Sh 5 6 (minus 1), 0x400, 1, 7) ∷
     (Sh 5 6 (pos 7), 0x400, 1, 7) ∷
-    (Sw 5 6 (pos 5), 0x400, 1, 7) ∷ []
-
-traps_done : all_done traps ≡ map (λ row. Trapped row.3) traps
-traps_done = refl
+    (Sw 5 6 (pos 5), 0x400, 1, 7) ∷ [])
+traps = refl
 
 -- "Memory Ordering Instructions": only the pc moves on
 fence : done (Fence 0x3fc00) 9 9 ≡ Retired (hart 0x10004 9 9 0 bytes)

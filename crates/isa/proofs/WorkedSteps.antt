@@ -15,21 +15,14 @@ hart pc number base memory = record { pc = pc; registers = registers number; bas
 abbrev ecall : List ℕ
 ecall = 0x73 ∷ 0 ∷ 0 ∷ 0 ∷ []
 
--- SW x0, -4(x0): its own word becomes 0, and the next pc is 0
-last_word : next (hart 0xfffffffc 0 0xfffffffc (0x23 ∷ 0x2e ∷ 0x00 ∷ 0xfe ∷ [])) ≡ Retired (hart 0 0 0xfffffffc (0 ∷ 0 ∷ 0 ∷ 0 ∷ []))
-last_word = refl
-
--- the word at the pc has to be in the window whole
-outside : next (hart 0xfffffffd 0 0xfffffffc ecall) ≡ Trapped 1
-outside = refl
-
-below : next (hart 0xfff 0 0x1000 (0x13 ∷ 0x13 ∷ ecall)) ≡ Trapped 1
-below = refl
-
--- no instruction has the word 0
-illegal : next (hart 0x1000 0 0x1000 (0 ∷ 0 ∷ 0 ∷ 0 ∷ [])) ≡ Trapped 2
-illegal = refl
-
--- a call has its number in x17, and its arguments in x10, x11 and x12
-called : next (hart 0x1004 64 0x1000 (ecall ++ ecall)) ≡ Called (record { kind = kind.Write; number = 64; args = 5 ∷ 6 ∷ 7 ∷ [] })
-called = refl
+steps :
+    -- SW x0, -4(x0): its own word becomes 0, and the next pc is 0
+    (next (hart 0xfffffffc 0 0xfffffffc (0x23 ∷ 0x2e ∷ 0x00 ∷ 0xfe ∷ [])) ≡ Retired (hart 0 0 0xfffffffc (0 ∷ 0 ∷ 0 ∷ 0 ∷ [])))
+    -- the word at the pc has to be in the window whole
+    × (next (hart 0xfffffffd 0 0xfffffffc ecall) ≡ Trapped 1)
+    × (next (hart 0xfff 0 0x1000 (0x13 ∷ 0x13 ∷ ecall)) ≡ Trapped 1)
+    -- no instruction has the word 0
+    × (next (hart 0x1000 0 0x1000 (0 ∷ 0 ∷ 0 ∷ 0 ∷ [])) ≡ Trapped 2)
+    -- a call has its number in x17, and its arguments in x10, x11 and x12
+    × (next (hart 0x1004 64 0x1000 (ecall ++ ecall)) ≡ Called (record { kind = kind.Write; number = 64; args = 5 ∷ 6 ∷ 7 ∷ [] }))
+steps = (refl, refl, refl, refl, refl)
