@@ -208,7 +208,3 @@ module _ {K : Type 0} (R : K → K → Ordering) (P : K → Type 0) where
   pub All-set_of : (xs : List K) → AllByRecursion P xs → AllByRecursion P (set_of R xs)
   All-set_of [] h = tt
   All-set_of (x ∷ xs) h = All-inserted x (set_of R xs) h.0 (All-set_of xs h.1)
-
-pub union-append : {K : Type 0} (R : K → K → Ordering) (xs ys zs : List K) → union R (xs ++ ys) zs ≡ union R xs (union R ys zs)
-union-append R [] ys zs = refl
-union-append R (x ∷ xs) ys zs = ap (inserted R x) (union-append R xs ys zs)
