@@ -1,5 +1,6 @@
 -- Steps of which each goes on where the one before it was well. Crates above cite these lemmas.
-use Rattle.std.proofs.Common.{◌≡◌, ◌∙◌, ap, sym, refl, subst, Option, Some, None, Result, Ok, Err}
+use Rattle.std.proofs.Common.{◌≡◌, ◌∙◌, ap, sym, refl, subst, ℕ, ◌≤◌, Bool, true, false, nat_lt, ltb-false, Option, Some, None, Result, Ok, Err}
+use Rattle.std.specs.Prelude.{if◌then◌else◌}
 use Rattle.std.specs.Option.{ok_or}
 use Rattle.jet_refusal.specs.declared.refusal.Refusal.{Refusal}
 use Rattle.jet_model.specs.Outcomes.{and_then, or_refused, AndThen}
@@ -47,3 +48,10 @@ or_refused-is_ok refusal_of (Err e) x h = cc
 pub ok_or-is_ok : {A E : Type 0} (o : Option A) (e : E) (x : A) → ok_or o e ≡ Ok x → o ≡ Some x
 ok_or-is_ok (Some y) e x h = cc
 ok_or-is_ok None e x h = cc
+
+-- a value of no more than the limit
+pub within-is_ok : {A : Type 0} (limit n : ℕ) (refused : Refusal) (x y : A) → (if nat_lt limit n then Err refused else Ok x) ≡ Ok y → (x ≡ y) × (n ≤ limit)
+within-is_ok limit n refused x y h = by (nat_lt limit n) refl h where
+  by : (b : Bool) → nat_lt limit n ≡ b → (if b then Err refused else Ok x) ≡ Ok y → (x ≡ y) × (n ≤ limit)
+  by true e h = cc
+  by false e h = (cc, ltb-false limit n e)

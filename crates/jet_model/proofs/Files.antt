@@ -1,5 +1,5 @@
 -- What files come to. Crates above cite these lemmas.
-use Rattle.std.proofs.Common.{◌≡◌, ◌∙◌, ap, ap₂, refl, subst, arith, ℕ, suc, ◌+◌, ◌≤◌, ◌<◌, ◌^◌, List, [], ◌∷◌, ◌++◌, Bool, true, false, nat_lt, length, map, Option, Some, Result, Ok, Err}
+use Rattle.std.proofs.Common.{◌≡◌, ◌∙◌, ap, ap₂, refl, subst, arith, ℕ, suc, ◌+◌, ◌≤◌, ◌<◌, ◌^◌, List, [], ◌∷◌, ◌++◌, Bool, length, map, Option, Some, Result, Ok, Err}
 use Rattle.std.specs.Prelude.{if◌then◌else◌}
 use Rattle.std.specs.Option.{ok_or}
 use Rattle.std.proofs.lemmas.Bool.{le-ltb, lt-ltb}
@@ -19,7 +19,7 @@ use Rattle.jet_model.specs.Headline.{IsShort, AreAllShort}
 use Rattle.jet_model.proofs.Bytes.{AreBytes, if_bytes-are, if_bytes-is_ok, text-bytes}
 use Rattle.log_model.proofs.Reading.{reads_log}
 use Rattle.log_model.proofs.Soundness.{log_read}
-use Rattle.jet_model.proofs.AndThen.{ok-one, and_then-ok, and_then-err, and_then-is_ok, or_refused-ok, or_refused-err, or_refused-is_ok, ok_or-is_ok}
+use Rattle.jet_model.proofs.AndThen.{ok-one, and_then-ok, and_then-err, and_then-is_ok, or_refused-ok, or_refused-err, or_refused-is_ok, ok_or-is_ok, within-is_ok}
 
 -- ---- one file
 
@@ -28,12 +28,6 @@ within_limit-short bytes short = ap (λ (b : Bool). if b then Err refusal.TooLon
 
 pub within_limit-long : (bytes : List ℕ) → 2 ^ 26 < length bytes → within_limit bytes ≡ Err refusal.TooLong
 within_limit-long bytes long = ap (λ (b : Bool). if b then Err refusal.TooLong else Ok bytes) (lt-ltb (2 ^ 26) (length bytes) long)
-
-within_limit-is_ok : (bytes other : List ℕ) → within_limit bytes ≡ Ok other → bytes ≡ other
-within_limit-is_ok bytes other h = by (nat_lt (2 ^ 26) (length bytes)) h where
-  by : (b : Bool) → (if b then Err refusal.TooLong else Ok bytes) ≡ Ok other → bytes ≡ other
-  by true h = cc
-  by false h = cc
 
 -- a file that is there and short
 pub file_at-there : (file : Contents) (name bytes : List ℕ) → file name ≡ Some bytes → length bytes ≤ 2 ^ 26 → file_at file name ≡ Ok bytes
@@ -46,7 +40,7 @@ file_at-long file name bytes e long = ap (λ (o : Option (List ℕ)). and_then (
 pub file_at-is_ok : (file : Contents) (name bytes : List ℕ) → file_at file name ≡ Ok bytes → file name ≡ Some bytes
 file_at-is_ok file name bytes h =
     let t = and_then-is_ok (ok_or (file name) refusal.ReadFault) within_limit bytes h in
-    ok_or-is_ok (file name) refusal.ReadFault t.0 t.1 ∙ ap Some (within_limit-is_ok t.0 bytes t.2)
+    ok_or-is_ok (file name) refusal.ReadFault t.0 t.1 ∙ ap Some (within-is_ok (2 ^ 26) (length t.0) refusal.TooLong t.0 bytes t.2).0
 
 short_there : (file : Contents) (name bytes : List ℕ) → file name ≡ Some bytes → IsShort (file name) → file_at file name ≡ Ok bytes
 short_there file name bytes e short = file_at-there file name bytes e (subst IsShort e short)

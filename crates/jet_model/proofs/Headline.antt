@@ -1,10 +1,10 @@
 -- A text is what files come to exactly where it is the text said in one piece. Crates above cite these lemmas.
-use Rattle.std.proofs.Common.{◌≡◌, ◌∙◌, ap, sym, refl, subst, arith, ℕ, ◌≤◌, ◌^◌, List, Bool, true, false, nat_lt, length, Option, Some, None, Result, Ok, Err}
+use Rattle.std.proofs.Common.{◌≡◌, ◌∙◌, ap, sym, refl, subst, arith, ℕ, ◌≤◌, ◌^◌, List, Bool, true, false, length, Option, Some, None, Result, Ok, Err}
 use Rattle.std.specs.Prelude.{if◌then◌else◌}
 use Rattle.std.specs.Option.{ok_or}
 use Rattle.std.specs.Str.{bytes_eq}
 use Rattle.std.proofs.lemmas.Slice.Eq.{bytes_eq-Decides}
-use Rattle.std.proofs.lemmas.Bool.{le-ltb, ltb-false}
+use Rattle.std.proofs.lemmas.Bool.{le-ltb}
 use Rattle.isa.specs.Machine.{State}
 use Rattle.elf_model.specs.declared.ImageKind.{ImageKind}
 use Rattle.elf_model.specs.Image.{Image, image}
@@ -27,7 +27,7 @@ use Rattle.jet_model.specs.Contents.{Contents, Names, Program, Run, program_at, 
 use Rattle.jet_model.specs.Report.{over_trace, reports_of}
 use Rattle.jet_model.specs.Answer.{digest_check, start_in, unless_diverged, fitting_start, told_check, cut_answer, analysed_answer, query_answer, unless_other_rule, rules_check, queries_answer, text_answer, run_answer, limited_text, convert_answer, Limits, Source, source_at, setting_of, IsCaptured, IsCaptureAnswer, IsRecordAnswer}
 use Rattle.jet_model.specs.Headline.{IsRunOf, IsGivenByQuery, AreReportsOf, IsGivenBy, IsConversionOf, IsRecordingOf, IsShort, AreShort, AreAllShort, HasFewIfTold}
-use Rattle.jet_model.proofs.AndThen.{ok-one, and_then-ok, and_then-is_ok, AndThen-ok, AndThen-is_ok, AndThen-one, ok_or-is_ok}
+use Rattle.jet_model.proofs.AndThen.{ok-one, and_then-ok, and_then-is_ok, AndThen-ok, AndThen-is_ok, AndThen-one, ok_or-is_ok, within-is_ok}
 use Rattle.replay_model.proofs.Received.{fitting_is_held}
 use Rattle.epoch_model.specs.ByLength.{epoch_count}
 use Rattle.record_model.specs.Counts.{capped}
@@ -251,13 +251,10 @@ given-is_run_answer file program log given text short short_log g =
 -- ---- a log that is written
 
 pub limited-is_ok : (log : Log) (text : List ℕ) → ok_text text ≡ limited_text log → (text ≡ log_text Two log) × (length text ≤ 2 ^ 26)
-limited-is_ok log text h = by (nat_lt (2 ^ 26) (length (log_text Two log))) refl h where
-  by : (b : Bool) → nat_lt (2 ^ 26) (length (log_text Two log)) ≡ b → ok_text text ≡ (if b then Err (refusal.LogTooLong (capped (length (log_text Two log)))) else Ok (log_text Two log))
-      → (text ≡ log_text Two log) × (length text ≤ 2 ^ 26)
-  by true e r = cc
-  by false e r =
-      let same : text ≡ log_text Two log = cc in
-      (same, subst (λ (t : List ℕ). length t ≤ 2 ^ 26) (sym same) (ltb-false (2 ^ 26) (length (log_text Two log)) e))
+limited-is_ok log text h =
+    let size = length (log_text Two log) in
+    let within = within-is_ok (2 ^ 26) size (refusal.LogTooLong (capped size)) (log_text Two log) text (sym h) in
+    (sym within.0, subst (λ (t : List ℕ). length t ≤ 2 ^ 26) within.0 within.1)
 
 pub limited-short : (log : Log) (text : List ℕ) → length text ≤ 2 ^ 26 → text ≡ log_text Two log → ok_text text ≡ limited_text log
 limited-short log text short e =

@@ -1,6 +1,6 @@
 -- Each recording comes to an answer.
-use Rattle.std.proofs.Common.{◌≡◌, ◌∙◌, ap, sym, refl, subst, arith, ℕ, zero, suc, ◌+◌, ◌≤◌, ◌<◌, ◌^◌, List, [], ◌∷◌, Bool, true, false, nat_lt, length, Result, Ok, Err, ltb-false}
-use Rattle.std.specs.Prelude.{if◌then◌else◌, min, IsSome}
+use Rattle.std.proofs.Common.{◌≡◌, ◌∙◌, ap, sym, refl, subst, arith, ℕ, zero, suc, ◌+◌, ◌≤◌, ◌<◌, ◌^◌, List, [], ◌∷◌, length, Result, Ok, Err}
+use Rattle.std.specs.Prelude.{min, IsSome}
 use Rattle.std.specs.List.{AllByRecursion}
 use Rattle.std.specs.Option.{ok_or}
 use Rattle.isa.specs.Machine.{State}
@@ -17,7 +17,7 @@ use Rattle.jet_model.specs.Outcomes.{and_then, AndThen}
 use Rattle.jet_model.specs.Contents.{Contents, within_limit, file_at, each_in_order}
 use Rattle.jet_model.specs.Answer.{Limits, Source, HoldsBytes, AreInRange, RecordAnswer, IsCaptured, IsCaptureAnswer, setting_of, source_at, start_in, limited_text}
 use Rattle.jet_model.proofs.Headline.{source_at-is_ok}
-use Rattle.jet_model.proofs.AndThen.{and_then-is_ok, AndThen-ok, ok_or-is_ok}
+use Rattle.jet_model.proofs.AndThen.{and_then-is_ok, AndThen-ok, ok_or-is_ok, within-is_ok}
 use Rattle.jet_model.proofs.Files.{IsProgramAt, file_at-is_ok, program_at-is_ok}
 
 -- ---- the inputs
@@ -26,18 +26,12 @@ use Rattle.jet_model.proofs.Files.{IsProgramAt, file_at-is_ok, program_at-is_ok}
 abbrev IsInput : List ℕ → Type 0
 IsInput bytes = IsBytes bytes × (length bytes ≤ 2 ^ 26)
 
-within_limit-short : (bytes other : List ℕ) → within_limit bytes ≡ Ok other → length other ≤ 2 ^ 26
-within_limit-short bytes other h = by (nat_lt (2 ^ 26) (length bytes)) refl h
-  where
-    by : (b : Bool) → nat_lt (2 ^ 26) (length bytes) ≡ b → (if b then Err refusal.TooLong else Ok bytes) ≡ Ok other → length other ≤ 2 ^ 26
-    by true e h = cc
-    by false e h = let same : bytes ≡ other = cc in subst (λ (x : List ℕ). length x ≤ 2 ^ 26) same (ltb-false (2 ^ 26) (length bytes) e)
-
 module _ (file : Contents) (are : HoldsBytes file) where
   is_input : (name bytes : List ℕ) → file_at file name ≡ Ok bytes → IsInput bytes
   is_input name bytes h =
       let t = and_then-is_ok (ok_or (file name) refusal.ReadFault) within_limit bytes h in
-      (are name bytes (file_at-is_ok file name bytes h), within_limit-short t.0 bytes t.2)
+      let within = within-is_ok (2 ^ 26) (length t.0) refusal.TooLong t.0 bytes t.2 in
+      (are name bytes (file_at-is_ok file name bytes h), subst (λ (x : List ℕ). length x ≤ 2 ^ 26) within.0 within.1)
 
   -- as many as there are names
   pub record AreInputs (names inputs : List (List ℕ)) : Type 0 where

@@ -35,8 +35,7 @@ lines =
     (refusal.LogTooLong 83558562, "jet: limit log 83558562\n") ∷
     (refusal.TooManyEpochs 4097, "jet: limit epochs 4097\n") ∷
     (refusal.ReadFault, "jet: read fault\n") ∷
-    (refusal.WriteFault, "jet: write fault\n") ∷
-    (
+    (refusal.WriteFault, "jet: write fault\n") ∷ (
       refusal.Diverged (record { step = 18446744073709551615; field = field.Byte 4294967295; kept = negsuc 9223372036854775807; seen = pos 9223372036854775807 }),
       "jet: diverged at 18446744073709551615 byte 4294967295 kept -9223372036854775808 seen 9223372036854775807\n",
     ) ∷ []

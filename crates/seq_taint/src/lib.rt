@@ -45,7 +45,10 @@ pub fn sequential(alloc: Global, job: &Job, query: &Query) -> Result<Vec<SinkSet
 }
 
 /// What watches a run from its first step on for the sinks of a query. It gives up with NoMemory alone.
-pub(crate) fn watching<'q>(alloc: Global, query: &'q Query) -> Result<Watching<'q, SourceLabels>, NoMemory>
+pub(crate) fn watching<'q>(
+    alloc: Global,
+    query: &'q Query,
+) -> Result<Watching<'q, SourceLabels>, NoMemory>
     ensures { IfOk result (HasBegun label_words query.now) }
 {
     Watching::new(alloc, SourceLabels::new(alloc), query)
