@@ -1,9 +1,9 @@
 -- The call that waits is answered by the first record that is left.
-use Rattle.std.proofs.Common.{◌≡◌, ℕ, ◌+◌, ◌≤◌, true, false, List, [], ◌∷◌, ◌++◌, length, take, drop, get_or, ap, sym, ◌∙◌, subst}
+use Rattle.std.proofs.Common.{◌≡◌, ℕ, ◌+◌, ◌≤◌, false, List, [], ◌∷◌, ◌++◌, length, take, drop, get_or, ap, sym, ◌∙◌, subst}
 use Rattle.isa.specs.Machine.{State}
 use Rattle.log_model.specs.declared.CallRecord.{CallRecord}
 use Rattle.log_model.specs.Logs.{Log, at_of}
-use Rattle.replay_model.specs.Run.{Moment, state_after, after_call, call_seen}
+use Rattle.replay_model.specs.Run.{Moment, state_after, after_call}
 use Rattle.rv_machine.specs.Hart.{Hart, running}
 use Rattle.replay_run.specs.Runs.{RunAt, Answers, IsDue}
 use Rattle.replay_run.specs.Counters.{run_at}
@@ -16,23 +16,13 @@ pub record IsAnswering (log : Log) (time index : ℕ) (s : State) (r : CallRecor
   pub answers : Answers log.inputs s r
 
 module _ (log : Log) (time index : ℕ) (hart : Hart) (view : RunAt) (view_is : run_at log time hart index ≡ view) where
-  pub answering : (left : List CallRecord) (r q : CallRecord) → IsDue view.log.inputs view.moment view.moment.left → left ≡ view.moment.left → 1 ≤ length left → r ≡ get_or left 0 r → r ≡ q → IsAnswering log time index hart.state q
-  answering left r q due e some item same =
+  pub answering : (left : List CallRecord) (r : CallRecord) → IsDue view.log.inputs view.moment view.moment.left → left ≡ view.moment.left → 1 ≤ length left → r ≡ get_or left 0 r → (q : CallRecord) → r ≡ q → IsAnswering log time index hart.state q
+  answering left r due e some item q same =
       let there : left ≡ drop index log.records = e ∙ sym (ap (λ (v : RunAt). v.moment.left) view_is) in
       let front = subst (IsFront log.records index) same (front_of log.records left index r there some item) in
       let here : IsDue log.inputs (run_at log time hart index).moment (drop index log.records) = subst (λ (v : RunAt). IsDue v.log.inputs v.moment v.moment.left) (sym view_is) due in
       let both : IsDue log.inputs (run_at log time hart index).moment (q ∷ drop (index + 1) log.records) = subst (IsDue log.inputs (run_at log time hart index).moment) front.left here in
       record { front = front; now = both.0; answers = both.1 }
-
-  -- the machine waits where the run does
-  pub waiting : view.waits ≡ true → hart.waits ≡ true
-  waiting e = ap (λ (v : RunAt). v.waits) view_is ∙ e
-
-  -- what is seen of the call
-  pub seen_is : (r : CallRecord) → IsFront log.records index r → call_seen (run_at log time hart index).moment (r ∷ drop (index + 1) log.records) ≡ call_seen view.moment view.moment.left
-  seen_is r front =
-      ap (λ (rs : List CallRecord). call_seen (run_at log time hart index).moment rs) (sym front.left)
-      ∙ ap (λ (v : RunAt). call_seen v.moment v.moment.left) view_is
 
   -- the run after the answer
   pub answered_is : (r : CallRecord) (after : Hart) → IsFront log.records index r → after ≡ running (state_after hart.state r)

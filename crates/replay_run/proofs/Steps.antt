@@ -111,8 +111,7 @@ goes_at_end : (inputs : ℕ) (m : Moment) (end : RunEnd) → m.left ≡ [] → d
 goes_at_end inputs m (Exit at code) none d late early =
     let exit = exit_agrees m inputs at code d in
     inr (exit.0, exit.1, λ own. subst (IsDue inputs m) (sym none) (kind_of_call m.state exit.0 kind.Exit own exit.2))
-goes_at_end inputs m (Trap at kind pc) none d late early = absurd (omega arith)
-goes_at_end inputs m (Limit at) none d late early = absurd (omega arith)
+goes_at_end inputs m end none d late early = absurd (omega arith)
 
 goes_by : (log : Log) (t : ℕ) (s : State) (done left : List CallRecord) → AllByRecursion IsRecord left → Rise t left → t < steps log → difference log (moment t s done left) ≡ None → Goes log.inputs (moment t s done left)
 goes_by log t s done [] records rise below d = by (cases_lt t (end_at log.end))
@@ -149,8 +148,7 @@ ready_by r (Called call) hart (inr p) h =
     let same : p.0 ≡ call = cc in
     let kept : hart.state ≡ r.moment.state = ap (λ (x : Hart). x.state) h.waits in
     (ap (λ (x : Hart). x.waits) h.waits, subst (λ (x : State). IsDue r.log.inputs (record (r.moment) { state = x }) r.moment.left) (sym kept) (p.2 (same ∙ h.by_registers)))
-ready_by r (Trapped kind pc) hart (inl p) h = let a = p.1 in let b = h.trapped in cc
-ready_by r (Trapped kind pc) hart (inr p) h = let a = p.1 in let b = h.trapped in cc
+ready_by r (Trapped kind pc) hart p h = let a = p.1 in let b = h.trapped in cc
 
 -- the step that the machine makes can be finished
 pub ready : (r : RunAt) (stepped : Stepped) (hart : Hart) → IsUnderLog r → r.moment.time < steps r.log → difference r.log r.moment ≡ None → IsStep r.moment.state stepped hart → IsReady (with_hart r hart) stepped

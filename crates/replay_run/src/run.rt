@@ -255,7 +255,7 @@ impl<'a> Run<'a> {
             return simple_call(CallKind::Exit);
         };
         self.done += 1;
-        match call {
+        let answer = match call {
             CallRecord::Read {
                 args,
                 result: moved,
@@ -263,11 +263,11 @@ impl<'a> Run<'a> {
                 ..
             } => {
                 let offset = count(&mut self.read, args[0], bytes.len());
-                self.machine.answer(Reply::Read {
+                let reply = Reply::Read {
                     result: *moved,
                     bytes: bytes.as_slice(),
-                });
-                transfer(CallKind::Read, args, offset, bytes.len())
+                };
+                (reply, transfer(CallKind::Read, args, offset, bytes.len()))
             }
             CallRecord::Write {
                 args,
@@ -276,18 +276,17 @@ impl<'a> Run<'a> {
                 ..
             } => {
                 let offset = count(&mut self.written, args[0], bytes.len());
-                self.machine.answer(Reply::Write { result: *moved });
-                transfer(CallKind::Write, args, offset, bytes.len())
+                let reply = Reply::Write { result: *moved };
+                (reply, transfer(CallKind::Write, args, offset, bytes.len()))
             }
             CallRecord::Clock { value, .. } => {
-                self.machine.answer(Reply::Clock { value: *value });
-                simple_call(CallKind::Clock)
+                (Reply::Clock { value: *value }, simple_call(CallKind::Clock))
             }
-            CallRecord::Other { .. } => {
-                self.machine.answer(Reply::Other);
-                simple_call(CallKind::Other)
-            }
-        }
+            CallRecord::Other { .. } => (Reply::Other, simple_call(CallKind::Other)),
+        };
+        let (reply, seen) = answer;
+        self.machine.answer(reply);
+        seen
     }
 
     /// Counts a plain step that the machine has made: only the time goes on.

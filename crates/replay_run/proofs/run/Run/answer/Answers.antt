@@ -1,139 +1,86 @@
-use Rattle.std.proofs.Common.{rules, ℕ, ◌+◌, ◌<◌, List, length, get_or, w32, arith, ap, sym, ◌∙◌, subst}
-use Rattle.std.specs.Prelude.{slice_set, IsTrue}
+use Rattle.std.proofs.Common.{rules, w32, arith, sym}
 use Rattle.std.proofs.lemmas.Int.{to_z-of_z}
 use mir.Val.{SFits}
-use Rattle.isa.specs.Machine.{reg, in_window}
 use Rattle.log_model.specs.declared.CallRecord.TheVariants.{Read, Write, Clock, Other}
 use Rattle.replay_model.proofs.Sizes.{records_fit_text}
-use Rattle.replay_run.specs.Counters.{IsCounted}
 use Rattle.replay_run.proofs.Counting.{after_read, after_write, after_clock, after_other, read_room, write_room}
-use Rattle.replay_run.proofs.Answering.{answering, waiting, seen_is, answered_is}
+use Rattle.replay_run.proofs.Answering.{answering, answered_is}
 use Rattle.replay_run.proofs.run.Run.answer.Goals as goal
+use Rattle.replay_run.proofs.run.Run.answer.Goals.{in-Read, in-Write, in-Clock, in-Other}
 
 pub overflow_add-self-2 : goal.overflow_add-self-2
 overflow_add-self-2 c = let within = c.self.invariant.within in omega (arith, c.self.invariant.small, records_fit_text c.self.inside.log.now)
 
 pub count-offset-requires : goal.count-offset-requires
 count-offset-requires c some =
-    let r = Read c.in-Read.at c.in-Read.args c.in-Read.moved c.in-Read.bytes in
-    let a = answering c.self.inside.log.now c.self.inside.time c.self.inside.done c.self.inside.machine c.args.self.now c.self.view_is c.left-left.result.now c.call-item.result r c.requires.due c.left-left.ensures c.in-len1-up.len_at_least c.call-item.is c.in-Read.is in
+    let i = c.self.inside in
+    let answers = answering i.log.now i.time i.done i.machine c.args.self.now c.self.view_is c.left-left.result.now c.call-item.result
+    c.requires.due c.left-left.ensures c.in-len1-up.len_at_least c.call-item.is in
+    let a = answers (Read c.in-Read.at c.in-Read.args c.in-Read.moved c.in-Read.bytes) c.in-Read.is in
     let few = (a.answers.2 (omega arith)).channel in
-    let room = read_room c.self.inside.log.now c.self.inside.time c.self.inside.done c.self.inside.read c.self.inside.written c.self.invariant c.in-Read.at c.in-Read.args c.in-Read.moved c.in-Read.bytes a.front few in
+    let room = read_room i.log.now i.time i.done i.read i.written c.self.invariant c.in-Read.at c.in-Read.args c.in-Read.moved c.in-Read.bytes a.front few in
     (omega (arith, few, c.self.invariant.form.inputs), omega arith)
-
-pub invariant_of-self-in-Read : goal.invariant_of-self-in-Read
-invariant_of-self-in-Read c =
-    let r = Read c.in-Read.at c.in-Read.args c.in-Read.moved c.in-Read.bytes in
-    let a = answering c.self.inside.log.now c.self.inside.time c.self.inside.done c.self.inside.machine c.args.self.now c.self.view_is c.left-left.result.now c.call-item.result r c.requires.due c.left-left.ensures c.in-len1-up.len_at_least c.call-item.is c.in-Read.is in
-    let counted = after_read c.self.inside.log.now c.self.inside.time c.self.inside.done c.self.inside.read c.self.inside.written c.self.invariant c.in-Read.at c.in-Read.args c.in-Read.moved c.in-Read.bytes a.front a.now c.self.told.0 (λ h. omega (arith, (a.answers.2 h).channel, c.self.invariant.form.inputs)) in
-    let counts = c.count-offset.ensures.counted ∙ ap (λ (n : ℕ). slice_set c.self.inside.read (get_or c.in-Read.args 0 0) (get_or c.self.inside.read (get_or c.in-Read.args 0 0) 0 + n)) c.len.ensures in
-    subst (λ (counts : List ℕ). IsCounted c.self.inside.log.now (c.self.inside.time + 1) (c.self.inside.done + 1) counts c.self.inside.written) (sym counts) counted
 
 pub count-offset-requires-in-Write : goal.count-offset-requires-in-Write
 count-offset-requires-in-Write c some =
-    let r = Write c.in-Write.at c.in-Write.args c.in-Write.moved c.in-Write.bytes in
-    let a = answering c.self.inside.log.now c.self.inside.time c.self.inside.done c.self.inside.machine c.args.self.now c.self.view_is c.left-left.result.now c.call-item.result r c.requires.due c.left-left.ensures c.in-len1-up.len_at_least c.call-item.is c.in-Write.is in
+    let i = c.self.inside in
+    let answers = answering i.log.now i.time i.done i.machine c.args.self.now c.self.view_is c.left-left.result.now c.call-item.result
+    c.requires.due c.left-left.ensures c.in-len1-up.len_at_least c.call-item.is in
+    let a = answers (Write c.in-Write.at c.in-Write.args c.in-Write.moved c.in-Write.bytes) c.in-Write.is in
     let few = (a.answers.2 (omega arith)).channel in
-    let room = write_room c.self.inside.log.now c.self.inside.time c.self.inside.done c.self.inside.read c.self.inside.written c.self.invariant c.in-Write.at c.in-Write.args c.in-Write.moved c.in-Write.bytes a.front few in
+    let room = write_room i.log.now i.time i.done i.read i.written c.self.invariant c.in-Write.at c.in-Write.args c.in-Write.moved c.in-Write.bytes
+    a.front few in
     (few, omega arith)
 
-pub invariant_of-self-in-Write : goal.invariant_of-self-in-Write
-invariant_of-self-in-Write c =
-    let r = Write c.in-Write.at c.in-Write.args c.in-Write.moved c.in-Write.bytes in
-    let a = answering c.self.inside.log.now c.self.inside.time c.self.inside.done c.self.inside.machine c.args.self.now c.self.view_is c.left-left.result.now c.call-item.result r c.requires.due c.left-left.ensures c.in-len1-up.len_at_least c.call-item.is c.in-Write.is in
-    let counted = after_write c.self.inside.log.now c.self.inside.time c.self.inside.done c.self.inside.read c.self.inside.written c.self.invariant c.in-Write.at c.in-Write.args c.in-Write.moved c.in-Write.bytes a.front a.now c.self.told.1 (λ h. (a.answers.2 h).channel) in
-    let counts = c.count-offset-in-Write.ensures.counted ∙ ap (λ (n : ℕ). slice_set c.self.inside.written (get_or c.in-Write.args 0 0) (get_or c.self.inside.written (get_or c.in-Write.args 0 0) 0 + n)) c.len-in-Write.ensures in
-    subst (λ (counts : List ℕ). IsCounted c.self.inside.log.now (c.self.inside.time + 1) (c.self.inside.done + 1) c.self.inside.read counts) (sym counts) counted
+pub invariant_of-self-2 : goal.invariant_of-self-2
+invariant_of-self-2 c =
+    let i = c.self.inside in
+    let answers = answering i.log.now i.time i.done i.machine c.args.self.now c.self.view_is c.left-left.result.now c.call-item.result
+    c.requires.due c.left-left.ensures c.in-len1-up.len_at_least c.call-item.is in
+    elim c.match-call.branch [
+      | in-Read w ↦
+          let a = answers (Read w.in-Read.at w.in-Read.args w.in-Read.moved w.in-Read.bytes) w.in-Read.is in
+          let counted = after_read i.log.now i.time i.done i.read i.written c.self.invariant w.in-Read.at w.in-Read.args w.in-Read.moved w.in-Read.bytes
+          a.front a.now c.self.told.0 (λ h. omega (arith, (a.answers.2 h).channel, c.self.invariant.form.inputs)) in
+          rw (w.self-inside-is, w.count-offset.ensures.counted, w.len.ensures) counted
+      | in-Write w ↦
+          let a = answers (Write w.in-Write.at w.in-Write.args w.in-Write.moved w.in-Write.bytes) w.in-Write.is in
+          let counted = after_write i.log.now i.time i.done i.read i.written c.self.invariant w.in-Write.at w.in-Write.args w.in-Write.moved w.in-Write.bytes
+          a.front a.now c.self.told.1 (λ h. (a.answers.2 h).channel) in
+          rw (w.self-inside-is, w.count-offset-in-Write.ensures.counted, w.len-in-Write.ensures) counted
+      | in-Clock w ↦
+          let a = answers (Clock w.in-Clock.at w.in-Clock.value) w.in-Clock.is in
+          rw w.self-inside-is (after_clock i.log.now i.time i.done i.read i.written c.self.invariant w.in-Clock.at w.in-Clock.value a.front a.now)
+      | in-Other w ↦
+          let a = answers (Other w.in-Other.at w.in-Other.number) w.in-Other.is in
+          rw w.self-inside-is (after_other i.log.now i.time i.done i.read i.written c.self.invariant w.in-Other.at w.in-Other.number a.front a.now)
+    ]
 
-pub invariant_of-self-in-Clock : goal.invariant_of-self-in-Clock
-invariant_of-self-in-Clock c =
-    let r = Clock c.in-Clock.at c.in-Clock.value in
-    let a = answering c.self.inside.log.now c.self.inside.time c.self.inside.done c.self.inside.machine c.args.self.now c.self.view_is c.left-left.result.now c.call-item.result r c.requires.due c.left-left.ensures c.in-len1-up.len_at_least c.call-item.is c.in-Clock.is in
-    after_clock c.self.inside.log.now c.self.inside.time c.self.inside.done c.self.inside.read c.self.inside.written c.self.invariant c.in-Clock.at c.in-Clock.value a.front a.now
-
-pub invariant_of-self-in-Other : goal.invariant_of-self-in-Other
-invariant_of-self-in-Other c =
-    let r = Other c.in-Other.at c.in-Other.number in
-    let a = answering c.self.inside.log.now c.self.inside.time c.self.inside.done c.self.inside.machine c.args.self.now c.self.view_is c.left-left.result.now c.call-item.result r c.requires.due c.left-left.ensures c.in-len1-up.len_at_least c.call-item.is c.in-Other.is in
-    after_other c.self.inside.log.now c.self.inside.time c.self.inside.done c.self.inside.read c.self.inside.written c.self.invariant c.in-Other.at c.in-Other.number a.front a.now
-
-pub returns-in-Write-clause-after : goal.returns-in-Write-clause-after
-returns-in-Write-clause-after c =
-    let r = Write c.in-Write.at c.in-Write.args c.in-Write.moved c.in-Write.bytes in
-    let a = answering c.self.inside.log.now c.self.inside.time c.self.inside.done c.self.inside.machine c.args.self.now c.self.view_is c.left-left.result.now c.call-item.result r c.requires.due c.left-left.ensures c.in-len1-up.len_at_least c.call-item.is c.in-Write.is in
-    let fits : SFits w32 c.in-Write.moved = search rules in
-    let after = rw (to_z-of_z w32 c.in-Write.moved fits) at c.answer-in-Write.ensures in
-    answered_is c.self.inside.log.now c.self.inside.time c.self.inside.done c.self.inside.machine c.args.self.now c.self.view_is r c.answer-in-Write.new.self a.front after
-
-pub returns-in-Read-clause-after : goal.returns-in-Read-clause-after
-returns-in-Read-clause-after c =
-    let r = Read c.in-Read.at c.in-Read.args c.in-Read.moved c.in-Read.bytes in
-    let a = answering c.self.inside.log.now c.self.inside.time c.self.inside.done c.self.inside.machine c.args.self.now c.self.view_is c.left-left.result.now c.call-item.result r c.requires.due c.left-left.ensures c.in-len1-up.len_at_least c.call-item.is c.in-Read.is in
-    let fits : SFits w32 c.in-Read.moved = search rules in
-    let after = rw (to_z-of_z w32 c.in-Read.moved fits, c.as_slice.ensures, sym a.answers.1) at c.answer-in-Read.ensures in
-    answered_is c.self.inside.log.now c.self.inside.time c.self.inside.done c.self.inside.machine c.args.self.now c.self.view_is r c.answer-in-Read.new.self a.front after
-
-pub answer-requires-clause-waits : goal.answer-requires-clause-waits
-answer-requires-clause-waits c = waiting c.self.inside.log.now c.self.inside.time c.self.inside.done c.self.inside.machine c.args.self.now c.self.view_is c.requires.waits
-
-pub answer-requires-in-Read-clause-waits : goal.answer-requires-in-Read-clause-waits
-answer-requires-in-Read-clause-waits c = waiting c.self.inside.log.now c.self.inside.time c.self.inside.done c.self.inside.machine c.args.self.now c.self.view_is c.requires.waits
-
-pub answer-requires-in-Write-clause-waits : goal.answer-requires-in-Write-clause-waits
-answer-requires-in-Write-clause-waits c = waiting c.self.inside.log.now c.self.inside.time c.self.inside.done c.self.inside.machine c.args.self.now c.self.view_is c.requires.waits
-
-pub answer-requires-in-Clock-clause-waits : goal.answer-requires-in-Clock-clause-waits
-answer-requires-in-Clock-clause-waits c = waiting c.self.inside.log.now c.self.inside.time c.self.inside.done c.self.inside.machine c.args.self.now c.self.view_is c.requires.waits
-
-pub answer-requires-in-Other-clause-waits : goal.answer-requires-in-Other-clause-waits
-answer-requires-in-Other-clause-waits c = waiting c.self.inside.log.now c.self.inside.time c.self.inside.done c.self.inside.machine c.args.self.now c.self.view_is c.requires.waits
-
-pub answer-requires-in-Read-clause-answers : goal.answer-requires-in-Read-clause-answers
-answer-requires-in-Read-clause-answers c =
-    let r = Read c.in-Read.at c.in-Read.args c.in-Read.moved c.in-Read.bytes in
-    let a = answering c.self.inside.log.now c.self.inside.time c.self.inside.done c.self.inside.machine c.args.self.now c.self.view_is c.left-left.result.now c.call-item.result r c.requires.due c.left-left.ensures c.in-len1-up.len_at_least c.call-item.is c.in-Read.is in
-    let state = c.self.inside.machine.state in
-    let bytes = c.as_slice.ensures in
-    (a.answers.0, λ some. subst (λ (xs : List ℕ). IsTrue (in_window state (reg state 11) (length xs))) (sym bytes) (a.answers.2 (subst (λ (xs : List ℕ). 0 < length xs) bytes some)).inside)
-
-pub answer-requires-in-Write-clause-answers : goal.answer-requires-in-Write-clause-answers
-answer-requires-in-Write-clause-answers c =
-    let r = Write c.in-Write.at c.in-Write.args c.in-Write.moved c.in-Write.bytes in
-    let a = answering c.self.inside.log.now c.self.inside.time c.self.inside.done c.self.inside.machine c.args.self.now c.self.view_is c.left-left.result.now c.call-item.result r c.requires.due c.left-left.ensures c.in-len1-up.len_at_least c.call-item.is c.in-Write.is in
-    a.answers.0
-
-pub answer-requires-in-Clock-clause-answers : goal.answer-requires-in-Clock-clause-answers
-answer-requires-in-Clock-clause-answers c =
-    let r = Clock c.in-Clock.at c.in-Clock.value in
-    let a = answering c.self.inside.log.now c.self.inside.time c.self.inside.done c.self.inside.machine c.args.self.now c.self.view_is c.left-left.result.now c.call-item.result r c.requires.due c.left-left.ensures c.in-len1-up.len_at_least c.call-item.is c.in-Clock.is in
-    a.answers
-
-pub answer-requires-in-Other-clause-answers : goal.answer-requires-in-Other-clause-answers
-answer-requires-in-Other-clause-answers c =
-    let r = Other c.in-Other.at c.in-Other.number in
-    let a = answering c.self.inside.log.now c.self.inside.time c.self.inside.done c.self.inside.machine c.args.self.now c.self.view_is c.left-left.result.now c.call-item.result r c.requires.due c.left-left.ensures c.in-len1-up.len_at_least c.call-item.is c.in-Other.is in
-    a.answers
-
-pub returns-in-Clock-clause-seen : goal.returns-in-Clock-clause-seen
-returns-in-Clock-clause-seen c =
-    let r = Clock c.in-Clock.at c.in-Clock.value in
-    let a = answering c.self.inside.log.now c.self.inside.time c.self.inside.done c.self.inside.machine c.args.self.now c.self.view_is c.left-left.result.now c.call-item.result r c.requires.due c.left-left.ensures c.in-len1-up.len_at_least c.call-item.is c.in-Clock.is in
-    c.simple_call-in-Clock.ensures ∙ seen_is c.self.inside.log.now c.self.inside.time c.self.inside.done c.self.inside.machine c.args.self.now c.self.view_is r a.front
-
-pub returns-in-Clock-clause-after : goal.returns-in-Clock-clause-after
-returns-in-Clock-clause-after c =
-    let r = Clock c.in-Clock.at c.in-Clock.value in
-    let a = answering c.self.inside.log.now c.self.inside.time c.self.inside.done c.self.inside.machine c.args.self.now c.self.view_is c.left-left.result.now c.call-item.result r c.requires.due c.left-left.ensures c.in-len1-up.len_at_least c.call-item.is c.in-Clock.is in
-    answered_is c.self.inside.log.now c.self.inside.time c.self.inside.done c.self.inside.machine c.args.self.now c.self.view_is r c.answer-in-Clock.new.self a.front c.answer-in-Clock.ensures
-
-pub returns-in-Other-clause-seen : goal.returns-in-Other-clause-seen
-returns-in-Other-clause-seen c =
-    let r = Other c.in-Other.at c.in-Other.number in
-    let a = answering c.self.inside.log.now c.self.inside.time c.self.inside.done c.self.inside.machine c.args.self.now c.self.view_is c.left-left.result.now c.call-item.result r c.requires.due c.left-left.ensures c.in-len1-up.len_at_least c.call-item.is c.in-Other.is in
-    c.simple_call-in-Other.ensures ∙ seen_is c.self.inside.log.now c.self.inside.time c.self.inside.done c.self.inside.machine c.args.self.now c.self.view_is r a.front
-
-pub returns-in-Other-clause-after : goal.returns-in-Other-clause-after
-returns-in-Other-clause-after c =
-    let r = Other c.in-Other.at c.in-Other.number in
-    let a = answering c.self.inside.log.now c.self.inside.time c.self.inside.done c.self.inside.machine c.args.self.now c.self.view_is c.left-left.result.now c.call-item.result r c.requires.due c.left-left.ensures c.in-len1-up.len_at_least c.call-item.is c.in-Other.is in
-    answered_is c.self.inside.log.now c.self.inside.time c.self.inside.done c.self.inside.machine c.args.self.now c.self.view_is r c.answer-in-Other.new.self a.front c.answer-in-Other.ensures
+pub returns-clause-after : goal.returns-clause-after
+returns-clause-after c =
+    let i = c.self.inside in
+    let answers = answering i.log.now i.time i.done i.machine c.args.self.now c.self.view_is c.left-left.result.now c.call-item.result
+    c.requires.due c.left-left.ensures c.in-len1-up.len_at_least c.call-item.is in
+    let is = answered_is i.log.now i.time i.done i.machine c.args.self.now c.self.view_is in
+    elim c.match-call.branch [
+      | in-Read w ↦
+          let r = Read w.in-Read.at w.in-Read.args w.in-Read.moved w.in-Read.bytes in
+          let a = answers r w.in-Read.is in
+          let fits : SFits w32 w.in-Read.moved = search rules in
+          let after = rw (w.self-inside-is, w.answer-is, to_z-of_z w32 w.in-Read.moved fits, w.as_slice.ensures, sym a.answers.1) at c.answer-2.ensures in
+          rw w.self-inside-is (is r c.answer-2.new.self a.front after)
+      | in-Write w ↦
+          let r = Write w.in-Write.at w.in-Write.args w.in-Write.moved w.in-Write.bytes in
+          let a = answers r w.in-Write.is in
+          let fits : SFits w32 w.in-Write.moved = search rules in
+          let after = rw (w.self-inside-is, w.answer-is, to_z-of_z w32 w.in-Write.moved fits) at c.answer-2.ensures in
+          rw w.self-inside-is (is r c.answer-2.new.self a.front after)
+      | in-Clock w ↦
+          let r = Clock w.in-Clock.at w.in-Clock.value in
+          let a = answers r w.in-Clock.is in
+          rw w.self-inside-is (is r c.answer-2.new.self a.front (rw (w.self-inside-is, w.answer-is) at c.answer-2.ensures))
+      | in-Other w ↦
+          let r = Other w.in-Other.at w.in-Other.number in
+          let a = answers r w.in-Other.is in
+          rw w.self-inside-is (is r c.answer-2.new.self a.front (rw (w.self-inside-is, w.answer-is) at c.answer-2.ensures))
+    ]
