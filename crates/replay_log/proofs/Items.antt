@@ -1,8 +1,6 @@
 -- The record at the front by its tag.
-use Rattle.std.proofs.Common.{◌≡◌, ℕ, ◌+◌, ◌-◌, ◌^◌, ◌<◌, ◌≤◌, List, length, true, false, ℤ, to_z, of_z, SFits, refl, sym, ap, subst, ◌∙◌, rules, arith}
-use Rattle.std.specs.Prelude.{nat_le}
+use Rattle.std.proofs.Common.{◌≡◌, ℕ, ◌+◌, ◌-◌, ◌^◌, ◌<◌, ◌≤◌, List, length, false, ℤ, to_z, of_z, SFits, refl, sym, ap, subst, ◌∙◌, rules, arith}
 use Rattle.std.specs.Int.{w32, cast_signed}
-use Rattle.std.proofs.lemmas.Bool.{leb-true}
 use Rattle.std.proofs.lemmas.Int.{ints, to_z-of_z}
 use Rattle.std.proofs.lemmas.List.{length-drop}
 use Rattle.lists.specs.Fields.{word_at}
@@ -28,15 +26,14 @@ module _ {v : Version} {least : ℕ} {left : List (List ℕ)} {rest : List ℕ} 
   pub tagged : {tag : Tag} → parts.tag ≡ tag → tag_of rest ≡ number tag
   tagged e = sym is.tag ∙ ap number e
 
-  -- the fields of a record of this kind are all there
-  pub are_there : (tag : Tag) → parts.tag ≡ tag → (n : ℕ) → nat_le n (fields_length (number tag)) ≡ true → n ≤ length parts.fields.now
-  are_there tag e n few =
-      let enough : n ≤ fields_length (tag_of rest) = subst (λ (k : ℕ). n ≤ fields_length k) (sym (tagged e)) (leb-true n (fields_length (number tag)) few) in
-      by (step_length v) (fields_length (tag_of rest)) (length rest) (length parts.fields.now) enough is.fixed
+  -- the fields of such a record are all there
+  pub are_there : fields_length (number parts.tag) ≤ length parts.fields.now
+  are_there =
+      by (step_length v) (fields_length (number parts.tag)) (length rest) (length parts.fields.now) (rw is.tag is.fixed)
       (ap length is.fields ∙ length-drop (1 + step_length v) rest)
     where
-      by : (step fixed whole long : ℕ) → n ≤ fixed → 1 + step + fixed ≤ whole → long ≡ whole - (1 + step) → n ≤ long
-      by step fixed whole long a b c = omega arith
+      by : (step fixed whole long : ℕ) → 1 + step + fixed ≤ whole → long ≡ whole - (1 + step) → fixed ≤ long
+      by step fixed whole long b c = omega arith
 
   -- a read takes no more than is left on its channel
   pub is_left : parts.tag ≡ IsRead → are_bytes_wrong v 1 left parts.fields.now ≡ false

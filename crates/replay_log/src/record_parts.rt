@@ -31,13 +31,8 @@ fn step_bound(tag: Tag) -> u64
     ensures { result ≡ step_bound (number tag) }
 {
     match tag {
-        Tag::Read => CALL_BOUND,
-        Tag::Write => CALL_BOUND,
-        Tag::Clock => CALL_BOUND,
-        Tag::Other => CALL_BOUND,
-        Tag::Exit => CALL_BOUND,
-        Tag::Trap => CALL_BOUND + 1,
-        Tag::Limit => CALL_BOUND + 1,
+        Tag::Read | Tag::Write | Tag::Clock | Tag::Other | Tag::Exit => CALL_BOUND,
+        Tag::Trap | Tag::Limit => CALL_BOUND + 1,
     }
 }
 
@@ -85,10 +80,7 @@ fn is_outcome_wrong(tag: Tag, fields: &[u8]) -> bool
         Tag::Read => is_read_result_wrong(word_at(fields, 8), word_at(fields, 12)),
         Tag::Write => is_write_result_wrong(word_at(fields, 8), word_at(fields, 12)),
         Tag::Trap => is_trap_kind_wrong(word_at(fields, 0)),
-        Tag::Clock => false,
-        Tag::Other => false,
-        Tag::Exit => false,
-        Tag::Limit => false,
+        Tag::Clock | Tag::Other | Tag::Exit | Tag::Limit => false,
     }
 }
 
@@ -123,12 +115,8 @@ fn are_bytes_wrong(version: Version, tag: Tag, left: &Channels, fields: &[u8]) -
 {
     match tag {
         Tag::Read => is_too_much(version, left, fields),
-        Tag::Write => false,
-        Tag::Clock => false,
-        Tag::Other => false,
-        Tag::Exit => left.are_left(),
-        Tag::Trap => left.are_left(),
-        Tag::Limit => left.are_left(),
+        Tag::Write | Tag::Clock | Tag::Other => false,
+        Tag::Exit | Tag::Trap | Tag::Limit => left.are_left(),
     }
 }
 
@@ -143,11 +131,7 @@ fn length_of_data(version: Version, tag: Tag, fields: &[u8]) -> usize
             Version::Two => 0,
         },
         Tag::Write => moved(fields),
-        Tag::Clock => 0,
-        Tag::Other => 0,
-        Tag::Exit => 0,
-        Tag::Trap => 0,
-        Tag::Limit => 0,
+        Tag::Clock | Tag::Other | Tag::Exit | Tag::Trap | Tag::Limit => 0,
     }
 }
 

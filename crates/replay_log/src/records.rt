@@ -1,9 +1,10 @@
 //! The record at the front of the bytes that are left, put together.
 
 ghost use Rattle.std.specs.Prelude.{◌≡◌, ◌≤◌, false, length, Some, IfOk, IfErr};
-ghost use Rattle.log_model.specs.Faults.{are_bytes_wrong, record_fault};
+ghost use Rattle.log_model.specs.Faults.{fields_length, are_bytes_wrong, record_fault};
 ghost use Rattle.log_model.specs.Reading.{arguments_of, item_of};
 ghost use Rattle.no_memory.specs.Faults.{IsCausedBy};
+ghost use Rattle.replay_log.specs.Tags.{number};
 ghost use Rattle.replay_log.specs.Records.{bytes_read, left_by, ArePartsOf, IsFirst};
 
 use crate::channels::Channels;
@@ -37,6 +38,14 @@ fn bytes_read<'a>(version: Version, left: &Channels<'a>, parts: &RecordParts<'a>
     }
 }
 
+/// Does nothing: it says that the fields of a record with these parts are all there.
+fn form(version: Version, least: u64, left: &Channels, rest: &[u8], parts: &RecordParts)
+    requires { ArePartsOf version least left.now rest.now parts.now }
+    ensures { fields_length (number parts.now.tag) ≤ length parts.now.fields.now }
+{
+    let _ = &parts.tag;
+}
+
 /// What the record at the front says, which has these parts.
 fn item_from(
     alloc: Global,
@@ -49,6 +58,7 @@ fn item_from(
     requires { ArePartsOf version least left.now rest.now parts.now }
     ensures { IfOk result (λ item. item ≡ item_of version left.now rest.now) }
 {
+    form(version, least, left, rest, parts);
     let at = parts.at;
     let fields = parts.fields;
     let item = match parts.tag {
@@ -92,10 +102,7 @@ fn leave(left: &mut Channels, item: &Item)
 {
     match item {
         Item::Call(CallRecord::Read { args, bytes, .. }) => left.skip(args[0], bytes.len()),
-        Item::Call(CallRecord::Write { .. }) => {}
-        Item::Call(CallRecord::Clock { .. }) => {}
-        Item::Call(CallRecord::Other { .. }) => {}
-        Item::End(_) => {}
+        _ => {}
     }
 }
 

@@ -56,12 +56,9 @@ impl Tag {
         ensures { result ≡ fields_length (number self) }
     {
         match self {
-            Tag::Read => 16,
-            Tag::Write => 16,
-            Tag::Clock => 8,
-            Tag::Other => 4,
-            Tag::Exit => 4,
-            Tag::Trap => 8,
+            Tag::Read | Tag::Write => 16,
+            Tag::Clock | Tag::Trap => 8,
+            Tag::Other | Tag::Exit => 4,
             Tag::Limit => 0,
         }
     }
