@@ -13,7 +13,7 @@ use Rattle.isa.specs.Calls.{refusal_of}
 use Rattle.log_model.specs.declared.CallRecord.{CallRecord}
 use Rattle.log_model.specs.declared.CallRecord.TheVariants.{Read, Write, Clock, Other}
 use Rattle.log_model.specs.declared.RunEnd.{RunEnd}
-use Rattle.log_model.specs.declared.RunEnd.TheVariants.{Exit, Trap, Limit}
+use Rattle.log_model.specs.declared.RunEnd.TheVariants.{Exit}
 use Rattle.log_model.specs.Logs.{Log, IsLog, IsRecord, Rise, least_after, at_of, end_at, steps, steps_by}
 use Rattle.flow_model.specs.declared.StepSeen.{StepSeen}
 use Rattle.replay_model.specs.Run.{Moment, advance, after_outcome, step_of, step_by, plain_step, after_call, call_seen}
@@ -148,7 +148,8 @@ ready_by r (Called call) hart (inr p) h =
     let same : p.0 ≡ call = cc in
     let kept : hart.state ≡ r.moment.state = ap (λ (x : Hart). x.state) h.waits in
     (ap (λ (x : Hart). x.waits) h.waits, subst (λ (x : State). IsDue r.log.inputs (record (r.moment) { state = x }) r.moment.left) (sym kept) (p.2 (same ∙ h.by_registers)))
-ready_by r (Trapped kind pc) hart p h = let a = p.1 in let b = h.trapped in cc
+ready_by r (Trapped kind pc) hart (inl p) h = let a = p.1 in let b = h.trapped in cc
+ready_by r (Trapped kind pc) hart (inr p) h = let a = p.1 in let b = h.trapped in cc
 
 -- the step that the machine makes can be finished
 pub ready : (r : RunAt) (stepped : Stepped) (hart : Hart) → IsUnderLog r → r.moment.time < steps r.log → difference r.log r.moment ≡ None → IsStep r.moment.state stepped hart → IsReady (with_hart r hart) stepped
