@@ -11,8 +11,8 @@ use Rattle.epoch_model.specs.Summary.{Summary}
 use Rattle.epoch_model.specs.Join.{resolved}
 use Rattle.stream_model.specs.Streams.{is_ended, heard, answer}
 use Rattle.stream_model.specs.StreamLaws.{IsPrefix}
-use Rattle.stream_model.specs.Passes.{Links, Asking, Answering, asking_event, answering_event}
-use Rattle.stream_model.specs.Schedules.{Phase, Fresh, Asks, Answers, NodeState, Event, asks_sent_in, asks_got_in, answers_sent_in, answers_got_in, first_of, next_item, asking_links, answering_links, begun, settled_by, node_event, phase_of_first, event_at, nodes_start, nodes_after}
+use Rattle.stream_model.specs.Passes.{Links, Asking, Answering, asking_start, asking_event, answering_event}
+use Rattle.stream_model.specs.Schedules.{Phase, Fresh, Asks, Answers, NodeState, Event, asks_sent_in, asks_got_in, answers_sent_in, answers_got_in, first_of, next_item, has_room_for, asking_links, answering_links, begun, settled_by, node_event, phase_of_first, event_at, nodes_start, nodes_after}
 use Rattle.stream_model.proofs.Events.{AskEvent, PushesAsk, WalksSink, TakesAsk, DropsAsk, EndsAsks, ask_event, AnswerEvent, AnswersNothing, PushesAnswer, TakesAnswer, BuildsAnswer, ResolvesRows, DropsAnswer, EndsAnswers, answer_event}
 use Rattle.stream_model.proofs.Growing.{prefix_same, prefix_trans, ended_stays, ended_append}
 
@@ -132,11 +132,6 @@ PhaseHolds Fresh = Unit {0}
 PhaseHolds (Asks a) = (a.is_over ≡ false) × (is_ended a.sent ≡ false)
 PhaseHolds (Answers a f) = (is_ended a.sent ≡ true) × (is_ended a.got ≡ true) × AnswerFits f
 
--- what was got is a part of what was sent, on the two links between p and the next node q
-pub record LinkHolds (p q : Phase) : Type 0 where
-  pub asks : IsPrefix (asks_got_in p) (asks_sent_in q)
-  pub answers : IsPrefix (answers_got_in q) (answers_sent_in p)
-
 -- where there is no link, the End counts as seen
 abbrev pub FirstHolds : Phase → Type 0
 FirstHolds (Answers a f) = is_ended f.got ≡ true
@@ -146,110 +141,147 @@ abbrev pub LastHolds : Phase → Type 0
 LastHolds (Asks a) = is_ended a.got ≡ true
 LastHolds p = Unit {0}
 
-abbrev pub PreviousHolds : Option Phase → Phase → Type 0
-PreviousHolds None p = FirstHolds p
-PreviousHolds (Some previous) p = LinkHolds previous p
-
-abbrev pub NextHolds : Phase → Option Phase → Type 0
-NextHolds p None = LastHolds p
-NextHolds p (Some next) = LinkHolds p next
-
 abbrev pub EndHolds : Option Phase → Type 0
 EndHolds None = Unit {0}
 EndHolds (Some p) = LastHolds p
 
+-- a relation of what was sent on a link and what was got
+module _ (Fits : List Message → List Message → Type 0) where
+  -- it holds on the two links between p and the next node q
+  pub record LinkFits (p q : Phase) : Type 0 where
+    pub asks : Fits (asks_sent_in q) (asks_got_in p)
+    pub answers : Fits (answers_sent_in p) (answers_got_in q)
+
+  abbrev pub PreviousFits : Option Phase → Phase → Type 0
+  PreviousFits None p = FirstHolds p
+  PreviousFits (Some previous) p = LinkFits previous p
+
+  abbrev pub NextFits : Phase → Option Phase → Type 0
+  NextFits p None = LastHolds p
+  NextFits p (Some next) = LinkFits p next
+
+  abbrev pub NodesFit : Option Phase → List NodeState → Type 0
+  NodesFit previous [] = EndHolds previous
+  NodesFit previous (n ∷ ns) = PhaseHolds n.phase × PreviousFits previous n.phase × NodesFit (Some n.phase) ns
+
+  record Kept (previous next : Option Phase) (p : Phase) : Type 0 where
+    pub phase : PhaseHolds p
+    pub early : PreviousFits previous p
+    pub late : NextFits p next
+
+-- what was got is a part of what was sent
+abbrev pub IsPart : List Message → List Message → Type 0
+IsPart sent got = IsPrefix got sent
+
+abbrev pub LinkHolds : Phase → Phase → Type 0
+LinkHolds p q = LinkFits IsPart p q
+
+abbrev pub PreviousHolds : Option Phase → Phase → Type 0
+PreviousHolds previous p = PreviousFits IsPart previous p
+
+abbrev pub NextHolds : Phase → Option Phase → Type 0
+NextHolds p next = NextFits IsPart p next
+
 abbrev pub NodesHold : Option Phase → List NodeState → Type 0
-NodesHold previous [] = EndHolds previous
-NodesHold previous (n ∷ ns) = PhaseHolds n.phase × PreviousHolds previous n.phase × NodesHold (Some n.phase) ns
+NodesHold previous ns = NodesFit IsPart previous ns
 
-record Kept (previous next : Option Phase) (p : Phase) : Type 0 where
-  pub phase : PhaseHolds p
-  pub early : PreviousHolds previous p
-  pub late : NextHolds p next
+-- ---- an event of a node
 
-begun_keeps : (refused : Bool) (previous next : Option Phase) (e : Summary) → PreviousHolds previous Fresh → NextHolds Fresh next → Kept previous next (Asks (begun refused (is_none next) e))
-begun_keeps refused previous next e b l = record { phase = phase refused; early = early refused previous b; late = late refused next l } where
-  phase : (refused : Bool) → PhaseHolds (Asks (begun refused (is_none next) e))
-  phase true = (refl, refl)
-  phase false = (refl, refl)
+-- the relation is kept where a message is sent that there is room for, and where the next one is got
+pub record IsKept (capacity : ℕ) (Fits : List Message → List Message → Type 0) : Type 0 where
+  pub nothing : Fits [] []
+  pub sent : (sent new got : List Message) → IsSent (has_room_for capacity sent got) sent new → Fits sent got → Fits new got
+  pub got : (sent got new : List Message) → IsGot (next_item got sent) got new → Fits sent got → Fits sent new
 
-  early : (refused : Bool) (previous : Option Phase) → PreviousHolds previous Fresh → PreviousHolds previous (Asks (begun refused (is_none next) e))
-  early refused None b = tt
-  early true (Some p) b = record { asks = b.asks; answers = b.answers }
-  early false (Some p) b = record { asks = b.asks; answers = b.answers }
+pub part_kept : (capacity : ℕ) → IsKept capacity IsPart
+part_kept capacity = record { nothing = ([], refl); sent = λ sent new got s p. sent_longer _ got sent new s p; got = λ sent got new g p. got_fits got new sent p g }
 
-  late : (refused : Bool) (next : Option Phase) → NextHolds Fresh next → NextHolds (Asks (begun refused (is_none next) e)) next
-  late true None l = refl
-  late false None l = refl
-  late true (Some q) l = record { asks = l.asks; answers = l.answers }
-  late false (Some q) l = record { asks = l.asks; answers = l.answers }
+module _ (capacity : ℕ) (Fits : List Message → List Message → Type 0) (kept : IsKept capacity Fits) where
+  begun_keeps : (refused : Bool) (previous next : Option Phase) (e : Summary) → PreviousFits Fits previous Fresh → NextFits Fits Fresh next
+      → Kept Fits previous next (Asks (begun refused (is_none next) e))
+  begun_keeps refused previous next e x y = by refused where
+    early : (previous : Option Phase) (whole : Bool) → PreviousFits Fits previous Fresh → PreviousFits Fits previous (Asks (record (asking_start (is_none next) e) { is_whole = whole }))
+    early None whole x = tt
+    early (Some p) whole x = record { asks = x.asks; answers = x.answers }
 
-module _ (capacity : ℕ) (refused : Bool) where
-  asks_keep : (previous next : Option Phase) (a b : Asking) → AskMoved (asking_links capacity refused previous next a) a b → PreviousHolds previous (Asks a) → NextHolds (Asks a) next
-      → (over : Bool) → b.is_over ≡ over → Kept previous next (settled_by over (is_none previous) b)
-  asks_keep previous next a b s x y over o = record { phase = phase over o; early = early previous x over; late = late next s.got y over } where
-    phase : (over : Bool) → b.is_over ≡ over → PhaseHolds (settled_by over (is_none previous) b)
-    phase false o = (o, s.running o)
-    phase true o = ((s.over o).0, (s.over o).1, record { running = λ _. (refl, refl); over = λ t. true-false (sym t) })
+    late : (next : Option Phase) (whole : Bool) → NextFits Fits Fresh next → NextFits Fits (Asks (record (asking_start (is_none next) e) { is_whole = whole })) next
+    late None whole y = refl
+    late (Some q) whole y = record { asks = y.asks; answers = y.answers }
 
-    early : (previous : Option Phase) → PreviousHolds previous (Asks a) → (over : Bool) → PreviousHolds previous (settled_by over (is_none previous) b)
-    early None x true = refl
-    early None x false = tt
-    early (Some p) x true = record { asks = sent_longer _ (asks_got_in p) a.sent b.sent s.sent x.asks; answers = (answers_sent_in p, refl) }
-    early (Some p) x false = record { asks = sent_longer _ (asks_got_in p) a.sent b.sent s.sent x.asks; answers = (answers_sent_in p, refl) }
+    by : (refused : Bool) → Kept Fits previous next (Asks (begun refused (is_none next) e))
+    by true = record { phase = (refl, refl); early = early previous false x; late = late next false y }
+    by false = record { phase = (refl, refl); early = early previous true x; late = late next true y }
 
-    late : (next : Option Phase) → IsGot (asking_links capacity refused previous next a).item a.got b.got → NextHolds (Asks a) next → (over : Bool) → NextHolds (settled_by over (is_none previous) b) next
-    late None g y true = tt
-    late None g y false = ended_got None a.got b.got g y
-    late (Some q) g y true = record { asks = got_fits a.got b.got (asks_sent_in q) y.asks g; answers = y.answers }
-    late (Some q) g y false = record { asks = got_fits a.got b.got (asks_sent_in q) y.asks g; answers = y.answers }
+  module _ (refused : Bool) where
+    asks_keep : (previous next : Option Phase) (a b : Asking) → AskMoved (asking_links capacity refused previous next a) a b → PreviousFits Fits previous (Asks a) → NextFits Fits (Asks a) next
+        → (over : Bool) → b.is_over ≡ over → Kept Fits previous next (settled_by over (is_none previous) b)
+    asks_keep previous next a b s x y over o = record { phase = phase over o; early = early previous s.sent x over; late = late next s.got y over } where
+      phase : (over : Bool) → b.is_over ≡ over → PhaseHolds (settled_by over (is_none previous) b)
+      phase false o = (o, s.running o)
+      phase true o = ((s.over o).0, (s.over o).1, record { running = λ _. (refl, refl); over = λ t. true-false (sym t) })
 
-  answers_keep : (previous next : Option Phase) (a : Asking) (f g : Answering) → AnswerMoved (answering_links capacity refused previous next f) f g
-      → PhaseHolds (Answers a f) → PreviousHolds previous (Answers a f) → NextHolds (Answers a f) next → Kept previous next (Answers a g)
-  answers_keep previous next a f g s h x y = record { phase = (h.0, h.1, s.fits); early = early previous s.got x; late = late next y } where
-    early : (previous : Option Phase) → IsGot (answering_links capacity refused previous next f).item f.got g.got → PreviousHolds previous (Answers a f) → PreviousHolds previous (Answers a g)
-    early None t x = ended_got None f.got g.got t x
-    early (Some p) t x = record { asks = x.asks; answers = got_fits f.got g.got (answers_sent_in p) x.answers t }
+      early : (previous : Option Phase) → IsSent (asking_links capacity refused previous next a).has_room a.sent b.sent → PreviousFits Fits previous (Asks a)
+          → (over : Bool) → PreviousFits Fits previous (settled_by over (is_none previous) b)
+      early None t x true = refl
+      early None t x false = tt
+      early (Some p) t x true = record { asks = kept.sent a.sent b.sent (asks_got_in p) t x.asks; answers = x.answers }
+      early (Some p) t x false = record { asks = kept.sent a.sent b.sent (asks_got_in p) t x.asks; answers = x.answers }
 
-    late : (next : Option Phase) → NextHolds (Answers a f) next → NextHolds (Answers a g) next
-    late None y = tt
-    late (Some q) y = record { asks = y.asks; answers = sent_longer _ (answers_got_in q) f.sent g.sent s.sent y.answers }
+      late : (next : Option Phase) → IsGot (asking_links capacity refused previous next a).item a.got b.got → NextFits Fits (Asks a) next
+          → (over : Bool) → NextFits Fits (settled_by over (is_none previous) b) next
+      late None g y true = tt
+      late None g y false = ended_got None a.got b.got g y
+      late (Some q) g y true = record { asks = kept.got (asks_sent_in q) a.got b.got g y.asks; answers = y.answers }
+      late (Some q) g y false = record { asks = kept.got (asks_sent_in q) a.got b.got g y.asks; answers = y.answers }
 
-  node_keeps : (previous next : Option Phase) (e : Summary) (p : Phase) → PhaseHolds p → PreviousHolds previous p → NextHolds p next → Kept previous next (node_event capacity refused previous next e p)
-  node_keeps previous next e Fresh h x y = begun_keeps refused previous next e x y
-  node_keeps previous next e (Asks a) h x y =
-      let links = asking_links capacity refused previous next a in
-      asks_keep previous next a (asking_event (is_none previous) e links a) (asking_moves (is_none previous) e links a h.0 h.1) x y _ refl
-  node_keeps previous next e (Answers a f) h x y =
-      let links = answering_links capacity refused previous next f in
-      answers_keep previous next a f (answering_event e a.asked links f) (answering_moves e a.asked links f h.2) h x y
+    answers_keep : (previous next : Option Phase) (a : Asking) (f g : Answering) → AnswerMoved (answering_links capacity refused previous next f) f g
+        → PhaseHolds (Answers a f) → PreviousFits Fits previous (Answers a f) → NextFits Fits (Answers a f) next → Kept Fits previous next (Answers a g)
+    answers_keep previous next a f g s h x y = record { phase = (h.0, h.1, s.fits); early = early previous s.got x; late = late next s.sent y } where
+      early : (previous : Option Phase) → IsGot (answering_links capacity refused previous next f).item f.got g.got → PreviousFits Fits previous (Answers a f) → PreviousFits Fits previous (Answers a g)
+      early None t x = ended_got None f.got g.got t x
+      early (Some p) t x = record { asks = x.asks; answers = kept.got (answers_sent_in p) f.got g.got t x.answers }
 
-  pub next_of : (p : Phase) (ns : List NodeState) → NodesHold (Some p) ns → NextHolds p (phase_of_first ns)
-  next_of p [] h = h
-  next_of p (n ∷ ns) h = h.1
+      late : (next : Option Phase) → IsSent (answering_links capacity refused previous next f).has_room f.sent g.sent → NextFits Fits (Answers a f) next → NextFits Fits (Answers a g) next
+      late None t y = tt
+      late (Some q) t y = record { asks = y.asks; answers = kept.sent f.sent g.sent (answers_got_in q) t y.answers }
 
-  with_new : (p q : Phase) (ns : List NodeState) → NodesHold (Some p) ns → NextHolds q (phase_of_first ns) → NodesHold (Some q) ns
-  with_new p q [] h l = l
-  with_new p q (n ∷ ns) h l = (h.0, l, h.2)
+    node_keeps : (previous next : Option Phase) (e : Summary) (p : Phase) → PhaseHolds p → PreviousFits Fits previous p → NextFits Fits p next → Kept Fits previous next (node_event capacity refused previous next e p)
+    node_keeps previous next e Fresh h x y = begun_keeps refused previous next e x y
+    node_keeps previous next e (Asks a) h x y =
+        let links = asking_links capacity refused previous next a in
+        asks_keep previous next a (asking_event (is_none previous) e links a) (asking_moves (is_none previous) e links a h.0 h.1) x y _ refl
+    node_keeps previous next e (Answers a f) h x y =
+        let links = answering_links capacity refused previous next f in
+        answers_keep previous next a f (answering_event e a.asked links f) (answering_moves e a.asked links f h.2) h x y
 
-  pub nodes_keep : (k : ℕ) (previous : Option Phase) (ns : List NodeState) → NodesHold previous ns → NodesHold previous (event_at capacity refused k previous ns)
-  nodes_keep k previous [] h = h
-  nodes_keep zero previous (n ∷ ns) h =
-      let kept = node_keeps previous (phase_of_first ns) n.summary n.phase h.0 h.1 (next_of n.phase ns h.2) in
-      (kept.phase, kept.early, with_new n.phase _ ns h.2 kept.late)
-  nodes_keep (suc k) previous (n ∷ ns) h = (h.0, h.1, nodes_keep k (Some n.phase) ns h.2)
+    next_of : (p : Phase) (ns : List NodeState) → NodesFit Fits (Some p) ns → NextFits Fits p (phase_of_first ns)
+    next_of p [] h = h
+    next_of p (n ∷ ns) h = h.1
 
-nodes_starts : (previous : Option Phase) → ((q : Phase) → previous ≡ Some q → q ≡ Fresh) → (es : List Summary) → NodesHold previous (nodes_start es)
-nodes_starts None f [] = tt
-nodes_starts (Some p) f [] = subst LastHolds (sym (f p refl)) tt
-nodes_starts previous f (e ∷ es) = (tt, by previous f, nodes_starts (Some Fresh) (λ q same. cc) es) where
-  by : (previous : Option Phase) → ((q : Phase) → previous ≡ Some q → q ≡ Fresh) → PreviousHolds previous Fresh
-  by None f = tt
-  by (Some p) f = subst (λ (q : Phase). LinkHolds q Fresh) (sym (f p refl)) (record { asks = ([], refl); answers = ([], refl) })
+    with_new : (p q : Phase) (ns : List NodeState) → NodesFit Fits (Some p) ns → NextFits Fits q (phase_of_first ns) → NodesFit Fits (Some q) ns
+    with_new p q [] h l = l
+    with_new p q (n ∷ ns) h l = (h.0, l, h.2)
 
-pub reached : (capacity : ℕ) (schedule : List Event) (ns : List NodeState) → NodesHold None ns → NodesHold None (nodes_after capacity schedule ns)
-reached capacity [] ns h = h
-reached capacity (m ∷ ms) ns h = reached capacity ms (event_at capacity m.is_refused m.node None ns) (nodes_keep capacity m.is_refused m.node None ns h)
+    nodes_keep : (k : ℕ) (previous : Option Phase) (ns : List NodeState) → NodesFit Fits previous ns → NodesFit Fits previous (event_at capacity refused k previous ns)
+    nodes_keep k previous [] h = h
+    nodes_keep zero previous (n ∷ ns) h =
+        let now = node_keeps previous (phase_of_first ns) n.summary n.phase h.0 h.1 (next_of n.phase ns h.2) in
+        (now.phase, now.early, with_new n.phase _ ns h.2 now.late)
+    nodes_keep (suc k) previous (n ∷ ns) h = (h.0, h.1, nodes_keep k (Some n.phase) ns h.2)
 
-pub started : (es : List Summary) → NodesHold None (nodes_start es)
-started es = nodes_starts None (λ q same. cc) es
+  -- ---- a schedule
+
+  fit_after : (schedule : List Event) (ns : List NodeState) → NodesFit Fits None ns → NodesFit Fits None (nodes_after capacity schedule ns)
+  fit_after [] ns h = h
+  fit_after (m ∷ ms) ns h = fit_after ms (event_at capacity m.is_refused m.node None ns) (nodes_keep m.is_refused m.node None ns h)
+
+  after_fresh : (es : List Summary) → NodesFit Fits (Some Fresh) (nodes_start es)
+  after_fresh [] = tt
+  after_fresh (e ∷ es) = (tt, record { asks = kept.nothing; answers = kept.nothing }, after_fresh es)
+
+  pub fit_reached : (schedule : List Event) (es : List Summary) → NodesFit Fits None (nodes_after capacity schedule (nodes_start es))
+  fit_reached schedule [] = fit_after schedule [] tt
+  fit_reached schedule (e ∷ es) = fit_after schedule (nodes_start (e ∷ es)) (tt, tt, after_fresh es)
+
+pub reached : (capacity : ℕ) (schedule : List Event) (es : List Summary) → NodesHold None (nodes_after capacity schedule (nodes_start es))
+reached capacity schedule es = fit_reached capacity IsPart (part_kept capacity) schedule es

@@ -3,7 +3,7 @@ use Rattle.std.proofs.Common.{◌≡◌, ◌⊎◌, inl, inr, ℕ, zero, suc, �
 use Rattle.std.specs.Prelude.{Option, Some, None, is_some, nat_lt}
 use Rattle.std.specs.List.{AllByRecursion}
 use Rattle.std.proofs.lemmas.Grind.{common_steps}
-use Rattle.std.proofs.lemmas.Bool.{or_parts}
+use Rattle.std.proofs.lemmas.Bool.{cases_Bool, or_parts}
 use Rattle.lists.proofs.Tests.{true-false}
 use Rattle.flow_model.specs.declared.Loc.{Loc}
 use Rattle.flow_model.specs.declared.Message.{Message}
@@ -16,31 +16,27 @@ use Rattle.stream_model.specs.Schedules.{Phase, Fresh, Asks, Answers, NodeState,
 use Rattle.stream_model.specs.ScheduleLaws.{NeverStill, StillAsking, StillAnswering}
 use Rattle.stream_model.proofs.Events.{AskEvent, AsksNothing, ask_event, AnswerEvent, AnswersNothing, answer_event}
 use Rattle.stream_model.proofs.Growing.{ended_stays}
-use Rattle.stream_model.proofs.Moving.{PhaseHolds, LinkHolds, PreviousHolds, NextHolds, NodesHold, drop_front, reached, started}
+use Rattle.stream_model.proofs.Moving.{PhaseHolds, LinkHolds, PreviousHolds, NextHolds, NodesHold, drop_front, reached}
 
 -- ---- what a link gives
 
--- what is held on a link is the rest of what was sent
 module _ (got sent : List Message) (p : IsPrefix got sent) where
-  held : drop (length got) sent ≡ p.0
-  held = ap (drop (length got)) (sym p.1) ∙ drop_front got p.0
+  -- where not all that was sent was got, an item waits
+  waits : (got ≡ sent → ⊥) → is_some (next_item got sent) ≡ true
+  waits more = by p.0 refl where
+    by : (rest : List Message) → p.0 ≡ rest → is_some (next_item got sent) ≡ true
+    by [] e = absurd (more (sym (append-nil got) ∙ ap (λ (r : List Message). got ++ r) (sym e) ∙ p.1))
+    by (m ∷ rest) e = ap (λ (r : List Message). is_some (first_of r)) (ap (drop (length got)) (sym p.1) ∙ drop_front got p.0 ∙ e)
 
-  -- where the End was sent and not got, an item waits
+  -- so it is where the End was sent and not got
   end_waits : is_ended got ≡ false → is_ended sent ≡ true → is_some (next_item got sent) ≡ true
-  end_waits g s = by p.0 refl where
-    by : (rest : List Message) → p.0 ≡ rest → is_some (next_item got sent) ≡ true
-    by [] e = true-false (sym s ∙ ap is_ended (sym p.1 ∙ ap (λ (r : List Message). got ++ r) e ∙ append-nil got) ∙ g)
-    by (m ∷ rest) e = ap (λ (r : List Message). is_some (first_of r)) (held ∙ e)
+  end_waits g s = waits (λ same. true-false (sym s ∙ ap is_ended (sym same) ∙ g))
 
-  -- where the link is full, an item waits
+  -- and where the link is full
   full_waits : (capacity : ℕ) → 0 < capacity → has_room_for capacity sent got ≡ false → is_some (next_item got sent) ≡ true
-  full_waits capacity c f = by p.0 refl where
-    by : (rest : List Message) → p.0 ≡ rest → is_some (next_item got sent) ≡ true
-    by [] e =
-        let same : length sent ≡ length got = ap length (sym p.1 ∙ ap (λ (r : List Message). got ++ r) e ∙ append-nil got) in
-        let room : nat_lt (length sent) (length got + capacity) ≡ true = grind (arith, common_steps, same, c) in
-        true-false (sym room ∙ f)
-    by (m ∷ rest) e = ap (λ (r : List Message). is_some (first_of r)) (held ∙ e)
+  full_waits capacity c f = waits (λ same.
+      let room : nat_lt (length sent) (length got + capacity) ≡ true = (let long = ap length same in grind (arith, common_steps, long, c)) in
+      true-false (sym room ∙ f))
 
   -- where the End was got, it was sent
   end_was_sent : is_ended got ≡ true → is_ended sent ≡ true
@@ -51,17 +47,13 @@ module _ (got sent : List Message) (p : IsPrefix got sent) where
 abbrev pub Goes : Need → Links → Type 0
 Goes need links = (is_met need links ≡ true) ⊎ (links.has_room ≡ false)
 
-either_way : (b : Bool) → (b ≡ true) ⊎ (b ≡ false)
-either_way true = inl refl
-either_way false = inr refl
-
 module _ (links : Links) where
   item_goes : (ended : Bool) → (ended ≡ false → is_some links.item ≡ true) → Goes (item_or_room ended) links
-  item_goes true n = either_way links.has_room
+  item_goes true n = cases_Bool links.has_room
   item_goes false n = inl (n refl)
 
   asking_whole_goes : (waiting : List Loc) (left : List SinkTerms) (ended : Bool) → (ended ≡ false → is_some links.item ≡ true) → Goes (whole_asking_need waiting left ended) links
-  asking_whole_goes (l ∷ waiting) left ended n = either_way links.has_room
+  asking_whole_goes (l ∷ waiting) left ended n = cases_Bool links.has_room
   asking_whole_goes [] (k ∷ left) ended n = inl refl
   asking_whole_goes [] [] ended n = item_goes ended n
 
@@ -76,7 +68,7 @@ module _ (links : Links) where
   answering_goes e asked f o n = by f.is_over o f.is_whole where
     rows : (r : Option (List Row)) → Goes (nothing_or_room r) links
     rows None = inl refl
-    rows (Some r) = either_way links.has_room
+    rows (Some r) = cases_Bool links.has_room
 
     last : (ended : Bool) → is_ended f.got ≡ ended → Goes (last_need ended f.rows) links
     last true d = rows f.rows
@@ -87,7 +79,7 @@ module _ (links : Links) where
     request l false r = inl (n (or_parts (is_ended f.got) _ r).0)
 
     whole_goes : (sending : List Message) (left : List Loc) → Goes (whole_answering_need e asked f sending left) links
-    whole_goes (m ∷ sending) left = either_way links.has_room
+    whole_goes (m ∷ sending) left = cases_Bool links.has_room
     whole_goes [] (l ∷ left) = request l (is_resolvable asked f.got (e.ends l)) refl
     whole_goes [] [] = last (is_ended f.got) refl
 
@@ -239,7 +231,7 @@ module _ (capacity : ℕ) (c : 0 < capacity) where
     by ns h (inr (inr all)) = seek None ns h all (λ q same. cc)
 
 pub never_still : NeverStill
-never_still capacity es schedule c = goes_on capacity c _ (reached capacity schedule (nodes_start es) (started es))
+never_still capacity es schedule c = goes_on capacity c _ (reached capacity schedule es)
 
 -- ---- what does not move stays
 

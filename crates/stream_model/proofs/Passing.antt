@@ -1,8 +1,9 @@
 -- The invariants of the two passes.
-use Rattle.std.proofs.Common.{◌≡◌, ℕ, zero, suc, ◌+◌, ◌≤◌, List, [], ◌∷◌, ◌++◌, map, length, take, drop, refl, ap, ap₂, sym, ◌∙◌, Bool, true, false, append-nil, append_assoc, length-append, arith}
+use Rattle.std.proofs.Common.{◌≡◌, ℕ, suc, ◌+◌, ◌-◌, ◌≤◌, List, [], ◌∷◌, ◌++◌, map, length, take, drop, refl, ap, ap₂, sym, ◌∙◌, Bool, true, false, append-nil, append_assoc, length-append, length-drop, arith}
 use Rattle.std.specs.Prelude.{Some}
 use Rattle.std.specs.List.{flat_map}
-use Rattle.std.proofs.lemmas.List.{map-append, take-append-le}
+use Rattle.std.proofs.Math.Seq.{take-add}
+use Rattle.std.proofs.lemmas.List.{map-append, take-append-le, take-append-drop}
 use Rattle.std.proofs.lemmas.List.Concat.{flat_map-append}
 use Rattle.std.proofs.lemmas.Bool.{or_left}
 use Rattle.lists.proofs.Tests.{true-false}
@@ -27,26 +28,12 @@ use Rattle.stream_model.proofs.Growing.{prefix_same, prefix_trans, added_all_kee
 module _ {X : Type 0} where
   -- the next item after the first n
   one_more : (n : ℕ) (xs : List X) (x : X) (rest : List X) → drop n xs ≡ x ∷ rest → (take (n + 1) xs ≡ take n xs ++ x ∷ []) × (n + 1 ≤ length xs)
-  one_more zero [] x rest e = cc
-  one_more zero (y ∷ ys) x rest e =
-      let same : y ≡ x = cc in
-      (ap (λ (z : X). z ∷ []) same, omega arith)
-  one_more (suc n) (y ∷ ys) x rest e =
-      let later : suc n + 1 ≡ suc (n + 1) = omega arith in
-      let more = one_more n ys x rest e in
-      (ap (λ (i : ℕ). take i (y ∷ ys)) later ∙ ap (λ (zs : List X). y ∷ zs) more.0, omega (arith, more.1))
-  one_more (suc n) [] x rest e = cc
+  one_more n xs x rest e =
+      let long : length xs - n ≡ suc (length rest) = sym (length-drop n xs) ∙ ap length e in
+      (take-add n 1 xs ∙ ap (λ (ys : List X). take n xs ++ take 1 ys) e, omega (arith, long))
 
   none_more : (n : ℕ) (xs : List X) → drop n xs ≡ [] → take n xs ≡ xs
-  none_more zero [] e = refl
-  none_more zero (y ∷ ys) e = cc
-  none_more (suc n) [] e = refl
-  none_more (suc n) (y ∷ ys) e = ap (λ (zs : List X). y ∷ zs) (none_more n ys e)
-
-  front_of : (n : ℕ) (xs : List X) → IsPrefix (take n xs) xs
-  front_of zero xs = (xs, refl)
-  front_of (suc n) [] = ([], refl)
-  front_of (suc n) (y ∷ ys) = let front = front_of n ys in (front.0, ap (λ (zs : List X). y ∷ zs) front.1)
+  none_more n xs e = sym (append-nil (take n xs)) ∙ ap (λ (ys : List X). take n xs ++ ys) (sym e) ∙ take-append-drop n xs
 
   take_front : (n : ℕ) (xs ys : List X) → n ≤ length xs → IsPrefix xs ys → (take n ys ≡ take n xs) × (n ≤ length ys)
   take_front n xs ys h p =
@@ -191,7 +178,7 @@ asks_are_sent first last e a h = record {
       let now = map Ask (take a.pushed a.asked) in
       prefix_trans a.sent now _ (prefix_same a.sent now (h.sent o))
       (prefix_trans now (map Ask (asked_by e (requests a.got))) _
-      (asked_front _ _ (prefix_trans (take a.pushed a.asked) a.asked _ (front_of a.pushed a.asked)
+      (asked_front _ _ (prefix_trans (take a.pushed a.asked) a.asked _ (drop a.pushed a.asked, take-append-drop a.pushed a.asked)
       (let kept = added_all_keeps a.asked (starts a.left) in (kept.0, kept.1 ∙ h.asked f))))
       (end_if (is_ended a.got), refl))
 

@@ -15,7 +15,7 @@ use Rattle.stream_model.proofs.NeverStill.{AllDone}
 use Rattle.stream_model.proofs.Growing.{nothing_is_left, asks_end_last, answers_end_last}
 use Rattle.stream_model.proofs.Meeting.{done_nodes_meet}
 use Rattle.stream_model.proofs.Passing.{AskingHolds, AnsweringHolds, asking_keeps, asking_starts, asks_are_sent, answering_keeps, answering_starts, answers_are_sent, begun_whole}
-use Rattle.stream_model.proofs.Moving.{LinkHolds, NodesHold, reached, started}
+use Rattle.stream_model.proofs.Moving.{LinkHolds, NodesHold, reached}
 
 -- ---- the invariants of the passes, along a schedule
 
@@ -154,4 +154,4 @@ pub every_schedule_meets : EveryScheduleMeets
 every_schedule_meets q trace cuts capacity es schedule steps points c a d w =
     let same = kept_summaries capacity schedule (nodes_start es) ∙ first_summaries es in
     done_nodes_meet q trace cuts _ steps points c (subst (AreSummaries q trace 0 cuts) (sym same) a)
-    (all_are_done _ (reached capacity schedule (nodes_start es) (started es)) (run_holds capacity schedule (nodes_start es) (run_starts None es)) d w)
+    (all_are_done _ (reached capacity schedule es) (run_holds capacity schedule (nodes_start es) (run_starts None es)) d w)

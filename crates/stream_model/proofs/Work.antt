@@ -15,7 +15,7 @@ use Rattle.stream_model.specs.Schedules.{Phase, Fresh, Asks, Answers, NodeState,
 use Rattle.stream_model.specs.ScheduleLaws.{one_if, moves_in, SameWork}
 use Rattle.stream_model.proofs.NeverStill.{AllDone}
 use Rattle.stream_model.proofs.Passing.{begun_whole}
-use Rattle.stream_model.proofs.Moving.{reached, started}
+use Rattle.stream_model.proofs.Moving.{reached}
 use Rattle.stream_model.proofs.Running.{PassHolds, RunHolds, AllWhole, facts, all_are_done, run_holds, run_starts, kept_summaries, first_summaries, as_many}
 use Rattle.stream_model.proofs.Moves.{AskCount, count_asking, whole_asking_before, row_count, count_answering}
 use Rattle.stream_model.proofs.NodeWork.{seen, done_nodes_work}
@@ -155,7 +155,7 @@ same_work q trace cuts capacity es schedule steps points c a d w =
     let ns = nodes_after capacity schedule (nodes_start es) in
     let same = kept_summaries capacity schedule (nodes_start es) ∙ first_summaries es in
     let runs = run_holds capacity schedule (nodes_start es) (run_starts None es) in
-    let done = all_are_done ns (reached capacity schedule (nodes_start es) (started es)) runs d w in
+    let done = all_are_done ns (reached capacity schedule es) runs d w in
     let work = done_nodes_work q trace cuts (map node_in ns) steps points c (subst (AreSummaries q trace 0 cuts) (sym same) a) done (ends_outside ns runs d w) in
     let count = count_all capacity schedule (nodes_start es) w in
     omega (arith, count, nothing_gained es, nothing_owed None es, all_work None ns runs d w, work)
