@@ -47,23 +47,3 @@ block_marked masks blocks node mask marked node_in = record {
 -- no node below the first one has a mask, with one more
 pub below_marked : (masks : List ℕ) (first node mask least : ℕ) → IsClearBelow masks first → least ≡ min first node → IsClearBelow (set masks node mask) least
 below_marked masks first node mask least below is m h = get_or-set_other masks node m mask 0 (λ e. absurd (omega (arith, e, is, h))) ∙ below m (omega (arith, is, h))
-
--- a block that isn't marked is passed
-pub clear_block : (masks : List ℕ) (blocks : List Bool) (past : ℕ) → AreMarked masks blocks → past % 64 ≡ 0 → 0 < past → slice_get blocks (past / 64 - 1) ≡ Some false → IsClearFrom masks past → IsClearFrom masks (past - 64)
-clear_block masks blocks past marked whole above is c m h = by (nat_lt m past) refl where
-  by : (b : Bool) → nat_lt m past ≡ b → slice_index masks m ≡ 0
-  by true p =
-      let less : m < past = grind (arith, common_steps) in
-      let in_block : m / 64 ≡ past / 64 - 1 = omega (arith, whole, above, h, less) in
-      marked.clear m (ap (slice_get blocks) in_block ∙ is)
-  by false p = c m (grind (arith, common_steps))
-
--- a node without a mask is passed
-pub clear_node : (masks : List ℕ) (past : ℕ) → 0 < past → slice_index masks (past - 1) ≡ 0 → IsClearFrom masks past → IsClearFrom masks (past - 1)
-clear_node masks past above is c m h = by (nat_lt m past) refl where
-  by : (b : Bool) → nat_lt m past ≡ b → slice_index masks m ≡ 0
-  by true p =
-      let less : m < past = grind (arith, common_steps) in
-      let same : m ≡ past - 1 = omega (arith, above, h, less) in
-      ap (slice_index masks) same ∙ is
-  by false p = c m (grind (arith, common_steps))

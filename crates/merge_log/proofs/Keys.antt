@@ -1,13 +1,14 @@
 -- What the set of entries answers, by the log's own words.
 use Rattle.std.proofs.Common.{◌≡◌, ℕ, zero, suc, ◌+◌, ◌<◌, List, [], ◌∷◌, ◌++◌, length, refl, ap, sym, ◌∙◌, subst, Bool, true, false, if◌then◌else◌, cond, nat_lt, arith, slice_get, get_or, position, Contains, add-one, length-append, ◌⊎◌, inl, inr}
 use Rattle.std.specs.Prelude.{Some, None}
-use Rattle.std.specs.List.{list_any, position_or_len}
-use Rattle.std.proofs.lemmas.Bool.{or_left, or_right}
-use Rattle.std.proofs.lemmas.List.Sums.{passes_at_first}
+use Rattle.std.specs.List.{list_any}
+use Rattle.std.proofs.lemmas.List.Folds.{list_any_at}
+use Rattle.std.proofs.lemmas.List.Quantifiers.{position-Some}
 use Rattle.std.proofs.lemmas.Grind.{common_steps}
 use Rattle.std.proofs.lemmas.Option.{slice_get_within, slice_get-get_or, get_or_from_slice_get}
 use Rattle.std.proofs.lemmas.List.Elements.{Contains-push_cases}
 use Rattle.std.proofs.lemmas.Map.Views.{Contains-from_any}
+use Rattle.lists.proofs.Tests.{true-false}
 use Rattle.indexmap.specs.IndexSet.{insert_key}
 use Rattle.flow_model.specs.declared.Loc.TheVariants.{Reg, Mem}
 use Rattle.merge_log.specs.contracts.nodes.EntryPartialEq.TheImpl as test
@@ -33,19 +34,8 @@ alike_itself : (a : Entry) → alike a a ≡ true
 alike_itself (Start (Reg r i)) = grind (arith, common_steps)
 alike_itself a = grind (arith, common_steps)
 
-any_at : (log : List Entry) (e : Entry) (k : ℕ) → slice_get log k ≡ Some e → list_any (alike e) log ≡ true
-any_at [] e k h = cc
-any_at (x ∷ log) e zero h = let same : e ≡ x = cc in or_left (alike e x) (list_any (alike e) log) (ap (alike e) (sym same) ∙ alike_itself e)
-any_at (x ∷ log) e (suc k) h = or_right (alike e x) (list_any (alike e) log) (any_at log e k h)
-
-pub found_there : (log : List Entry) (e : Entry) → list_any (alike e) log ≡ true → Contains log e
-found_there log e h = Contains-from_any alike_same e log h
-
-any_there : (log : List Entry) (e : Entry) (k : ℕ) → k < length log → get_or log k e ≡ e → list_any (alike e) log ≡ true
-any_there log e k h g = any_at log e k (slice_get-get_or log k e h ∙ ap Some g)
-
-pub not_there : (log : List Entry) (e : Entry) → list_any (alike e) log ≡ false → Contains log e → ⊥
-not_there log e h c = let found = any_there log e c.0 c.1 c.2 in cc
+there : (log : List Entry) (e : Entry) → Contains log e → list_any (alike e) log ≡ true
+there log e c = list_any_at (alike e) log c.0 e c.1 (ap (alike e) c.2 ∙ alike_itself e)
 
 distinct_more : (log : List Entry) (e : Entry) → AreDistinct log → (Contains log e → ⊥) → AreDistinct (log ++ e ∷ [])
 distinct_more [] e d h = ((λ c. let no : c.0 < 0 = c.1 in omega arith), tt)
@@ -65,7 +55,7 @@ log_after log e new h few before is = subst IsLog (sym is) (by (list_any (alike 
   by false p = record {
     few = rw length-append (omega (arith, few));
     ordered = ordered_more 1 log e h.ordered (let later : length log + 1 ≡ 1 + length log = omega arith in subst (λ (n : ℕ). HasOperandsBefore n e) later before);
-    distinct = distinct_more log e h.distinct (not_there log e p);
+    distinct = distinct_more log e h.distinct (λ c. true-false (sym (there log e c) ∙ p));
   }
 
 at_index : (log : List Entry) (k : ℕ) (x : Entry) → slice_get log k ≡ Some x → entry_at log (k + 1) ≡ Some x
@@ -79,22 +69,12 @@ noted_by log e new k is found =
     record {
       stands = omega (arith, within);
       entry = at_index new k e at;
-      there = λ c. is ∙ ap (λ (b : Bool). if b then log else log ++ e ∷ []) (any_there log e c.0 c.1 c.2);
+      there = λ c. is ∙ ap (λ (b : Bool). if b then log else log ++ e ∷ []) (there log e c);
       added = λ lacks. is ∙ by (list_any (alike e) log) refl lacks;
     } where
       by : (b : Bool) → list_any (alike e) log ≡ b → (Contains log e → ⊥) → (if b then log else log ++ e ∷ []) ≡ log ++ e ∷ []
-      by true p lacks = absurd (lacks (found_there log e p))
+      by true p lacks = absurd (lacks (Contains-from_any alike_same e log p))
       by false p lacks = refl
-
-first_alike : (log : List Entry) (e : Entry) (k : ℕ) → position (alike e) log ≡ Some k → (x : Entry) × (slice_get log k ≡ Some x) × (alike e x ≡ true)
-first_alike log e k h = by (nat_lt (position_or_len (alike e) log) (length log)) refl h where
-  by : (b : Bool) → nat_lt (position_or_len (alike e) log) (length log) ≡ b → cond b (Some (position_or_len (alike e) log)) None ≡ Some k → (x : Entry) × (slice_get log k ≡ Some x) × (alike e x ≡ true)
-  by true p q =
-      let same : position_or_len (alike e) log ≡ k = cc in
-      let within : position_or_len (alike e) log < length log = grind (arith, common_steps) in
-      let within_too : k < length log = omega (arith, within, same) in
-      (get_or log k e, slice_get-get_or log k e within_too, ap (λ (i : ℕ). alike e (get_or log i e)) (sym same) ∙ passes_at_first (alike e) log e within)
-  by false p q = cc
 
 -- an entry that stands in the log is noted there
 pub noted_here : (log : List Entry) (e : Entry) (n : ℕ) → entry_at log n ≡ Some e → IsNoted log e log n
@@ -110,9 +90,8 @@ noted_here log e (suc k) at =
 
 pub noted_at : (log : List Entry) (e : Entry) (k : ℕ) → position (alike e) log ≡ Some k → IsNoted log e log (k + 1)
 noted_at log e k h =
-    let at = first_alike log e k h in
-    let same : at.0 ≡ e = sym (alike_same e at.0 at.2) in
-    noted_here log e (k + 1) (at_index log k e (at.1 ∙ ap Some same))
+    let first = position-Some (alike e) log k e h in
+    noted_here log e (k + 1) (at_index log k e (slice_get-get_or log k e first.0 ∙ ap Some (sym (alike_same e (get_or log k e) first.1))))
 
 pub keeps_more : (log : List Entry) (e : Entry) (new : List Entry) → new ≡ insert_key alike log e → KeepsNodes log new
 keeps_more log e new is = subst (KeepsNodes log) (sym is) (by (list_any (alike e) log)) where

@@ -1,5 +1,6 @@
--- Which leaves are among terms.
-use Rattle.std.proofs.Common.{◌≡◌, [], ◌∷◌, sym, ◌||◌}
+-- Which leaves are among terms, and leaves in a list.
+use Rattle.std.proofs.Common.{◌≡◌, ℕ, ◌+◌, ◌<◌, ◌≤◌, List, [], ◌∷◌, ◌++◌, length, map, take, get_or, ap, sym, ◌∙◌, ◌||◌, append_assoc}
+use Rattle.std.proofs.lemmas.List.{map_more, take_all}
 use Rattle.std.specs.Ordering.{eq_by_cmp}
 use Rattle.std.proofs.lemmas.List.Folds.{list_any-append}
 use Rattle.std.proofs.Math.Bool.{or-false}
@@ -33,3 +34,14 @@ has-more (leaf.Source q) (Run r) t = list_any-append (eq_by_cmp source_cmp q) t.
 has-more (leaf.Start q) (Run r) t = sym (or-false (has loc_cmp q t.starts))
 has-more (leaf.Source q) (Start l) t = sym (or-false (has source_cmp q t.sources))
 has-more (leaf.Start q) (Start l) t = list_any-append (eq_by_cmp loc_cmp q) t.starts (l ∷ [])
+
+-- ---- leaves that are pushed one by one
+
+module _ {X : Type 0} (make : X → Leaf) (before now : List Leaf) (xs : List X) (i : ℕ) (so_far : now ≡ before ++ map make (take i xs)) where
+  pub one_pushed : (new : List Leaf) (d : X) → i < length xs → new ≡ now ++ make (get_or xs i d) ∷ [] → new ≡ before ++ map make (take (i + 1) xs)
+  one_pushed new d h e =
+      e ∙ ap (λ (ls : List Leaf). ls ++ make (get_or xs i d) ∷ []) so_far ∙ append_assoc before (map make (take i xs)) (make (get_or xs i d) ∷ [])
+      ∙ ap (λ (ls : List Leaf). before ++ ls) (sym (map_more make xs i d h))
+
+  pub all_pushed : length xs ≤ i → now ≡ before ++ map make xs
+  all_pushed h = so_far ∙ ap (λ (ys : List X). before ++ map make ys) (take_all i xs h)

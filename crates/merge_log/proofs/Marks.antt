@@ -1,5 +1,5 @@
 -- The marks of nodes, and the stack of those that are still to be looked at.
-use Rattle.std.proofs.Common.{◌≡◌, ℕ, ◌+◌, ◌*◌, ◌<◌, ◌≤◌, ◌==◌, List, [], ◌∷◌, ◌++◌, length, refl, ap, sym, ◌∙◌, subst, Bool, true, false, not, nat_eq, if◌then◌else◌, cond, arith, slice_index, ◌⊎◌, inl, inr, length-append}
+use Rattle.std.proofs.Common.{◌≡◌, ℕ, ◌+◌, ◌*◌, ◌<◌, ◌≤◌, ◌==◌, List, [], ◌∷◌, ◌++◌, length, refl, ap, sym, ◌∙◌, Bool, true, false, not, nat_eq, if◌then◌else◌, cond, arith, slice_index, ◌⊎◌, inl, inr, length-append}
 use Rattle.std.specs.List.{list_any, count_by}
 use Rattle.std.proofs.Math.ListN.{set}
 use Rattle.std.proofs.lemmas.Grind.{common_steps, get_or-set_at}
@@ -79,15 +79,11 @@ module _ {marks : List ℕ} {round : ℕ} {stack : List ℕ} {a : ℕ} {marks1 :
 
   -- the node bears the mark of the round
   pub visit_marks : a < length marks → IsMarked marks1 round1 a
-  visit_marks h = subst (λ (ms : List ℕ). IsMarked ms round1 a) (sym v.marked) (subst (λ (r : ℕ). IsMarked (set marks a round) r a) (sym v.same_round) (marked_now marks round a h))
+  visit_marks h = rw (v.marked, v.same_round) (marked_now marks round a h)
 
   -- and so does each that did
   pub visit_marked : a < length marks → (m : ℕ) → IsMarked marks round m → IsMarked marks1 round1 m
-  visit_marked h m k = subst (λ (ms : List ℕ). IsMarked ms round1 m) (sym v.marked) (subst (λ (r : ℕ). IsMarked (set marks a round) r m) (sym v.same_round) (marked_more marks round a m h k))
+  visit_marked h m k = rw (v.marked, v.same_round) (marked_more marks round a m h k)
 
   pub visit_cost : a < length marks → cost marks1 round1 stack1 ≤ cost marks round stack
-  visit_cost h =
-      let less = visited_cost marks round a stack h in
-      subst (λ (s : List ℕ). cost marks1 round1 s ≤ cost marks round stack) (sym v.stacked)
-      (subst (λ (ms : List ℕ). cost ms round1 (visited marks round a stack) ≤ cost marks round stack) (sym v.marked)
-      (subst (λ (r : ℕ). cost (set marks a round) r (visited marks round a stack) ≤ cost marks round stack) (sym v.same_round) less))
+  visit_cost h = rw (v.stacked, v.marked, v.same_round) (visited_cost marks round a stack h)

@@ -2,15 +2,15 @@
 use Rattle.std.proofs.Common.{◌≡◌, ◌≢◌, ℕ, zero, suc, ◌+◌, ◌<◌, ◌≤◌, ◌==◌, List, [], ◌∷◌, ◌++◌, length, refl, ap, ap₂, sym, ◌∙◌, subst, Bool, true, false, arith, slice_index, slice_set, map, ◌⊎◌, inl, inr, if◌then◌else◌}
 use Rattle.std.specs.Prelude.{slice_index_or}
 use Rattle.std.proofs.lemmas.Grind.{common_steps}
+use Rattle.std.proofs.lemmas.Bool.{cases_lt}
 use Rattle.std.proofs.lemmas.List.{length-set}
 use Rattle.flow_model.specs.declared.Loc.{Loc}
 use Rattle.source_runs.specs.declared.runs.SourceRun.{SourceRun}
 use Rattle.source_runs.specs.Runs.{all_bytes}
-use Rattle.merge_log.specs.declared.reader.Leaf.{Leaf}
 use Rattle.merge_log.specs.declared.finding.FoundLeaves.{FoundLeaves}
 use Rattle.merge_log.specs.declared.finding.Leaves.{Leaves}
-use Rattle.merge_log.specs.Log.{Terms, AreSets, no_terms}
-use Rattle.merge_log.specs.Walk.{has_leaf, terms_of}
+use Rattle.merge_log.specs.Log.{Terms, no_terms}
+use Rattle.merge_log.specs.Walk.{terms_of}
 use Rattle.merge_log.specs.Masks.{found_at, and_leaves, with_leaves}
 
 -- ---- one of the sets
@@ -51,11 +51,6 @@ empty_more [] f is h (suc r) = refl
 empty_more (g ∷ fs) f is h zero = h zero
 empty_more (g ∷ fs) f is h (suc r) = empty_more fs f is (λ i. h (suc i)) r
 
-pub empty_first : (fs : List FoundLeaves) (n : ℕ) → ((r : ℕ) → r < length fs → found_at fs r ≡ no_terms) → (r : ℕ) → found_at fs r ≡ no_terms
-empty_first [] n h r = refl
-empty_first (g ∷ fs) n h zero = h zero (omega arith)
-empty_first (g ∷ fs) n h (suc r) = empty_first fs n (λ i l. h (suc i) (omega (arith, l))) r
-
 -- each set is what a root has
 pub map_found : (fs : List FoundLeaves) (roots : List ℕ) (G : ℕ → Terms) → length fs ≡ length roots → ((r : ℕ) → r < length roots → found_at fs r ≡ G (slice_index roots r)) → map terms_of fs ≡ map G roots
 map_found [] [] G e h = refl
@@ -73,55 +68,38 @@ number_case m n = by (m == n) refl where
   by true p = inl (grind (arith, common_steps))
   by false p = inr (λ e. absurd (grind (arith, common_steps)))
 
--- the roots before this one have what is given to each, and the others are as they were
-pub record AreGiven (G : ℕ → Terms → Terms) (old now : List FoundLeaves) (root : ℕ) : Type 0 where
+-- the roots before this one have what they are to have, by what each had, and the others are as they were
+pub record AreGiven (Q : ℕ → Terms → Terms → Type 0) (old now : List FoundLeaves) (root : ℕ) : Type 0 where
   pub sets : length now ≡ length old
-  pub given : (r : ℕ) → r < root → found_at now r ≡ G r (found_at old r)
+  pub given : (r : ℕ) → r < root → Q r (found_at old r) (found_at now r)
   pub rest : (r : ℕ) → root ≤ r → found_at now r ≡ found_at old r
 
-pub given_next : (G : ℕ → Terms → Terms) (old now : List FoundLeaves) (root : ℕ) (f : FoundLeaves) → root < length now → AreGiven G old now root → terms_of f ≡ G root (found_at now root) → AreGiven G old (slice_set now root f) (root + 1)
-given_next G old now root f h a is = record {
-  sets = length-set now root f ∙ a.sets;
-  given = λ r l. elim (number_case root r) [
-    | inl e ↦ subst (λ (i : ℕ). found_at (slice_set now root f) i ≡ G i (found_at old i)) e (set_same now root f h ∙ is ∙ ap (G root) (a.rest root (omega arith)))
-    | inr e ↦ set_other now root f r e ∙ a.given r (omega (arith, l, e))
-  ];
-  rest = λ r l. set_other now root f r (omega (arith, l)) ∙ a.rest r (omega (arith, l));
-}
+pub given_first : (Q : ℕ → Terms → Terms → Type 0) (fs : List FoundLeaves) → AreGiven Q fs fs 0
+given_first Q fs = record { sets = refl; given = λ r h. absurd (omega (arith, h)); rest = λ r h. refl }
 
-pub given_none : (G : ℕ → Terms → Terms) (old now : List FoundLeaves) (root : ℕ) → AreGiven G old now root → found_at now root ≡ G root (found_at now root) → AreGiven G old now (root + 1)
-given_none G old now root a is = record {
-  sets = a.sets;
-  given = λ r l. elim (number_case root r) [
-    | inl e ↦ subst (λ (i : ℕ). found_at now i ≡ G i (found_at old i)) e (is ∙ ap (G root) (a.rest root (omega arith)))
-    | inr e ↦ a.given r (omega (arith, l, e))
-  ];
-  rest = λ r l. a.rest r (omega (arith, l));
-}
+module _ (Q : ℕ → Terms → Terms → Type 0) (old now : List FoundLeaves) (root : ℕ) (a : AreGiven Q old now root) where
+  given_step : (new : List FoundLeaves) → length new ≡ length now → ((r : ℕ) → root ≢ r → found_at new r ≡ found_at now r) → Q root (found_at now root) (found_at new root) → AreGiven Q old new (root + 1)
+  given_step new sets others is = record {
+    sets = sets ∙ a.sets;
+    given = λ r l. elim (number_case root r) [
+      | inl e ↦ subst (λ (i : ℕ). Q i (found_at old i) (found_at new i)) e (subst (λ (t : Terms). Q root t (found_at new root)) (a.rest root (omega arith)) is)
+      | inr e ↦ subst (Q r (found_at old r)) (sym (others r e)) (a.given r (omega (arith, l, e)))
+    ];
+    rest = λ r l. others r (omega (arith, l)) ∙ a.rest r (omega (arith, l));
+  }
 
--- the roots before this one have sets of what they had
-pub record AreAscended (old now : List FoundLeaves) (root : ℕ) : Type 0 where
-  pub sets : length now ≡ length old
-  pub members : (r : ℕ) (q : Leaf) → has_leaf q (found_at now r) ≡ has_leaf q (found_at old r)
-  pub ascending : (r : ℕ) → r < root → AreSets (found_at now r)
+  pub given_next : (f : FoundLeaves) → root < length now → Q root (found_at now root) (terms_of f) → AreGiven Q old (slice_set now root f) (root + 1)
+  given_next f h is = given_step (slice_set now root f) (length-set now root f) (set_other now root f) (subst (Q root (found_at now root)) (sym (set_same now root f h)) is)
 
-pub ascended_next : (old now : List FoundLeaves) (root : ℕ) (f : FoundLeaves) → root < length now → AreAscended old now root → ((q : Leaf) → has_leaf q (terms_of f) ≡ has_leaf q (found_at now root)) → AreSets (terms_of f) → AreAscended old (slice_set now root f) (root + 1)
-ascended_next old now root f h a same sets = record {
-  sets = length-set now root f ∙ a.sets;
-  members = λ r q. elim (number_case root r) [
-    | inl e ↦ subst (λ (i : ℕ). has_leaf q (found_at (slice_set now root f) i) ≡ has_leaf q (found_at old i)) e (ap (has_leaf q) (set_same now root f h) ∙ same q ∙ a.members root q)
-    | inr e ↦ ap (has_leaf q) (set_other now root f r e) ∙ a.members r q
-  ];
-  ascending = λ r l. elim (number_case root r) [
-    | inl e ↦ subst (λ (i : ℕ). AreSets (found_at (slice_set now root f) i)) e (subst AreSets (sym (set_same now root f h)) sets)
-    | inr e ↦ subst AreSets (sym (set_other now root f r e)) (a.ascending r (omega (arith, l, e)))
-  ];
-}
+  pub given_none : Q root (found_at now root) (found_at now root) → AreGiven Q old now (root + 1)
+  given_none is = given_step now refl (λ r e. refl) is
 
-pub ascended_all : (fs : List FoundLeaves) → ((r : ℕ) → r < length fs → AreSets (found_at fs r)) → (r : ℕ) → AreSets (found_at fs r)
-ascended_all [] h r = record { sources = tt; starts = tt }
-ascended_all (f ∷ fs) h zero = h zero (omega arith)
-ascended_all (f ∷ fs) h (suc r) = ascended_all fs (λ i l. h (suc i) (omega (arith, l))) r
+  -- beyond the last one none has any
+  pub given_all : length now ≤ root → ((r : ℕ) → Q r no_terms no_terms) → (r : ℕ) → Q r (found_at old r) (found_at now r)
+  given_all h none r = elim (cases_lt r root) [
+    | inl l ↦ a.given r l
+    | inr g ↦ subst (λ (t : Terms). Q r t (found_at now r)) (a.rest r g) (subst (λ (t : Terms). Q r t t) (sym (found_beyond now r (omega (arith, h, g)))) (none r))
+  ]
 
 -- ---- a bit
 

@@ -18,7 +18,7 @@ use Rattle.flow_model.proofs.Derived.{loc_compared, loc_order_is}
 use Rattle.flow_model.proofs.Orders.{loc_total, loc_same, source_total, source_same}
 use Rattle.merge_log.specs.declared.reader.Leaf.{Leaf}
 use Rattle.merge_log.specs.declared.reader.Leaf.TheVariants as leaf
-use Rattle.merge_log.specs.Log.{Terms, AreSets}
+use Rattle.merge_log.specs.Log.{Terms, AreSets, no_terms}
 use Rattle.merge_log.specs.Walk.{has_leaf}
 
 -- ---- sorted, and each once
@@ -72,6 +72,14 @@ found_members sources sources1 starts starts1 s l (leaf.Start p) = (of_starts st
 
 pub found_sets : (sources : List SourceByte) (starts starts1 : List Loc) → Ascends source_cmp sources → IsSetOf loc_compared starts1 starts → AreSets (record { sources = sources; starts = starts1 })
 found_sets sources starts starts1 s l = record { sources = s; starts = (of_starts starts starts1 l).ascending }
+
+-- the other terms are the sets of these
+pub record IsSetWith (these other : Terms) : Type 0 where
+  pub members : (q : Leaf) → has_leaf q other ≡ has_leaf q these
+  pub ascending : AreSets other
+
+pub none_is_set : IsSetWith no_terms no_terms
+none_is_set = record { members = λ q. refl; ascending = record { sources = tt; starts = tt } }
 
 -- sets with the same leaves are the same
 pub same_terms : (a b : Terms) → AreSets a → AreSets b → ((q : Leaf) → has_leaf q a ≡ has_leaf q b) → a ≡ b

@@ -143,9 +143,3 @@ united_apart old a b new n apart h = record {
   right_has = λ k. absurd (apart.1 k);
   other = λ k. inr h;
 }
-
--- where neither has the other as an operand, a union that stands is by its entry, or by one of both alone
-pub union_there : (log : List Entry) (a b : ℕ) → AreApart log a b → HasOperand log a b ⊎ HasOperand log b a ⊎ HasUnion log a b → HasUnion log a b
-union_there log a b apart (inl h) = absurd (apart.0 h)
-union_there log a b apart (inr (inl h)) = absurd (apart.1 h)
-union_there log a b apart (inr (inr h)) = h

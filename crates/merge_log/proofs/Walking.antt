@@ -6,16 +6,15 @@ use Rattle.std.proofs.lemmas.Grind.{common_steps}
 use Rattle.std.proofs.lemmas.Option.{slice_get-get_or}
 use Rattle.std.proofs.lemmas.Bool.{or_left, or_right, or_cases}
 use Rattle.lists.proofs.Tests.{true-false, same-tests}
-use Rattle.flow_model.specs.declared.Loc.{Loc}
 use Rattle.flow_model.specs.declared.SourceByte.{SourceByte}
 use Rattle.merge_log.specs.declared.nodes.Entry.{Entry}
-use Rattle.merge_log.specs.declared.nodes.Entry.TheVariants.{Source, Run, Start, Union}
+use Rattle.merge_log.specs.declared.nodes.Entry.TheVariants.{Source, Union}
 use Rattle.merge_log.specs.declared.reader.Leaf.{Leaf}
 use Rattle.source_runs.specs.declared.runs.SourceRun.{SourceRun}
 use Rattle.source_runs.specs.Runs.{bytes_of}
 use Rattle.merge_log.specs.declared.finding.Leaves.{Leaves}
 use Rattle.merge_log.specs.Masks.{and_leaves}
-use Rattle.merge_log.specs.Log.{Terms, source_term, run_term, start_term, terms, IsNode, HasOperandsBefore, AreOrdered, IsLog, entry_at}
+use Rattle.merge_log.specs.Log.{Terms, no_terms, run_term, entry_terms, terms, IsNode, HasOperandsBefore, AreOrdered, IsLog, entry_at}
 use Rattle.merge_log.specs.Walk.{has_leaf, visited}
 use Rattle.merge_log.proofs.Leaves.{leaves_terms, has-joined, has-more}
 use Rattle.merge_log.proofs.Marks.{IsMarked, IsOn, IsVisit, cost, marked_more, marked_back, on_pushed, on_top, on_back, on_visited, visit_length, visit_marks, visit_marked, visit_cost}
@@ -25,10 +24,13 @@ use Rattle.merge_log.proofs.Terms.{terms_step, entry_before}
 
 -- what is asked of a marked node that is not on the stack: its leaf is found, and its operands are marked
 abbrev pub IsDone : List ℕ → ℕ → Terms → Entry → Type 0
-IsDone marks round found (Source b) = (q : Leaf) → has_leaf q (source_term b) ≡ true → has_leaf q found ≡ true
-IsDone marks round found (Run c a b) = (q : Leaf) → has_leaf q (run_term (record { channel = c; first = a; last = b })) ≡ true → has_leaf q found ≡ true
-IsDone marks round found (Start l) = (q : Leaf) → has_leaf q (start_term l) ≡ true → has_leaf q found ≡ true
 IsDone marks round found (Union a b) = IsMarked marks round a × IsMarked marks round b
+IsDone marks round found e = (q : Leaf) → has_leaf q (entry_terms (λ i. no_terms) e) ≡ true → has_leaf q found ≡ true
+
+-- the entry is a leaf
+abbrev pub IsLeaf : Entry → Type 0
+IsLeaf (Union a b) = ⊥
+IsLeaf e = Unit {0}
 
 -- the node stands in the log, and its leaves are among those of the root
 pub record IsUnder (log : List Entry) (root m : ℕ) : Type 0 where
@@ -65,10 +67,8 @@ entry_there log (suc i) d h k =
     slice_get-get_or log i d less ∙ ap (λ (j : ℕ). Some (get_or log j d)) one
 
 done_more : (marks : List ℕ) (round a : ℕ) (found : Terms) (e : Entry) → a < length marks → IsDone marks round found e → IsDone (set marks a round) round found e
-done_more marks round a found (Source b) h d = d
-done_more marks round a found (Run c x y) h d = d
-done_more marks round a found (Start l) h d = d
 done_more marks round a found (Union p q) h d = (marked_more marks round a p h d.0, marked_more marks round a q h d.1)
+done_more marks round a found e h d = d
 
 -- ---- a walk goes on
 
@@ -119,11 +119,8 @@ visited_walk log root round marks stack found is_open a h u w = record {
 pub visit_walk : {marks : List ℕ} {round : ℕ} {stack : List ℕ} {a : ℕ} {marks1 : List ℕ} {round1 : ℕ} {stack1 : List ℕ} → IsVisit marks round stack a marks1 round1 stack1
     → (log : List Entry) (root : ℕ) (found : Terms) (is_open : ℕ → Type 0) → a < length marks → IsUnder log root a
     → IsWalk log root round marks stack found is_open → IsWalk log root round1 marks1 stack1 found is_open
-visit_walk {marks = marks} {round = round} {stack = stack} {a = a} {marks1 = marks1} {round1 = round1} v log root found is_open h u w =
-    let walk = visited_walk log root round marks stack found is_open a h u w in
-    subst (λ (s : List ℕ). IsWalk log root round1 marks1 s found is_open) (sym v.stacked)
-    (subst (λ (ms : List ℕ). IsWalk log root round1 ms (visited marks round a stack) found is_open) (sym v.marked)
-    (subst (λ (r : ℕ). IsWalk log root r (set marks a round) (visited marks round a stack) found is_open) (sym v.same_round) walk))
+visit_walk {marks = marks} {round = round} {stack = stack} {a = a} v log root found is_open h u w =
+    rw (v.stacked, v.marked, v.same_round) (visited_walk log root round marks stack found is_open a h u w)
 
 -- the node that was taken is done
 pub closed : (log : List Entry) (root round : ℕ) (marks stack : List ℕ) (found : Terms) (next : ℕ) (e : Entry) → entry_at log next ≡ Some e → IsDone marks round found e
@@ -140,10 +137,8 @@ closed log root round marks stack found next e at d w = record {
 }
 
 done_found : (marks : List ℕ) (round : ℕ) (found more : Terms) (e : Entry) → ((q : Leaf) → has_leaf q found ≡ true → has_leaf q more ≡ true) → IsDone marks round found e → IsDone marks round more e
-done_found marks round found more (Source b) h d = λ q k. h q (d q k)
-done_found marks round found more (Run c x y) h d = λ q k. h q (d q k)
-done_found marks round found more (Start l) h d = λ q k. h q (d q k)
 done_found marks round found more (Union p q) h d = d
+done_found marks round found more e h d = λ q k. h q (d q k)
 
 -- a leaf under the root is found
 pub found_more : (log : List Entry) (root round : ℕ) (marks stack : List ℕ) (found more : Terms) (is_open : ℕ → Type 0)
@@ -171,14 +166,12 @@ all_found log root round marks found o w (suc n) m h k q t = elim (w.settled m k
   | inr (inr p) ↦ absurd p
 ] where
   by : ((i : ℕ) → i < n → IsMarked marks round i → has_leaf q (terms log i) ≡ true → has_leaf q found ≡ true) → (e : Entry) → entry_at log m ≡ Some e → IsDone marks round found e → HasOperandsBefore m e → has_leaf q found ≡ true
-  by ih (Source b) at d before = d q (sym (ap (has_leaf q) (terms_step log m (Source b) at before)) ∙ t)
-  by ih (Run c x y) at d before = d q (sym (ap (has_leaf q) (terms_step log m (Run c x y) at before)) ∙ t)
-  by ih (Start l) at d before = d q (sym (ap (has_leaf q) (terms_step log m (Start l) at before)) ∙ t)
   by ih (Union x y) at d before =
       let either = or_cases (has_leaf q (terms log x)) (has_leaf q (terms log y)) (sym (has-joined q (terms log x) (terms log y)) ∙ sym (ap (has_leaf q) (terms_step log m (Union x y) at before)) ∙ t) in
       let x_less : x < n = omega arith in
       let y_less : y < n = omega arith in
       elim either [ inl p ↦ ih x x_less d.0 p | inr p ↦ ih y y_less d.1 p ]
+  by ih e at d before = d q (sym (ap (has_leaf q) (terms_step log m e at before)) ∙ t)
 
 pub walk_ends : (log : List Entry) (root round : ℕ) (marks : List ℕ) (found : Terms) → IsLog log → IsWalk log root round marks [] found none_open → (q : Leaf) → has_leaf q found ≡ has_leaf q (terms log root)
 walk_ends log root round marks found form w q =
@@ -186,55 +179,42 @@ walk_ends log root round marks found form w q =
 
 -- ---- operands
 
-pub under_left : (log : List Entry) (root next a b : ℕ) → entry_at log next ≡ Some (Union a b) → HasOperandsBefore next (Union a b) → IsUnder log root next → IsUnder log root a
-under_left log root next a b at before u = record {
-  above_0 = before.0;
-  stands = omega (arith, before, u.stands);
-  leaves = λ q h. u.leaves q (ap (has_leaf q) (terms_step log next (Union a b) at before) ∙ has-joined q (terms log a) (terms log b) ∙ or_left (has_leaf q (terms log a)) (has_leaf q (terms log b)) h);
-}
-
-pub under_right : (log : List Entry) (root next a b : ℕ) → entry_at log next ≡ Some (Union a b) → HasOperandsBefore next (Union a b) → IsUnder log root next → IsUnder log root b
-under_right log root next a b at before u = record {
-  above_0 = omega (arith, before);
-  stands = omega (arith, before, u.stands);
-  leaves = λ q h. u.leaves q (ap (has_leaf q) (terms_step log next (Union a b) at before) ∙ has-joined q (terms log a) (terms log b) ∙ or_right (has_leaf q (terms log a)) (has_leaf q (terms log b)) h);
-}
-
-pub under_itself : (log : List Entry) (root : ℕ) → 0 < root → IsNode log root → IsUnder log root root
-under_itself log root h k = record { above_0 = h; stands = k; leaves = λ q t. t }
+under_operands : (log : List Entry) (root next a b : ℕ) → entry_at log next ≡ Some (Union a b) → HasOperandsBefore next (Union a b) → IsUnder log root next
+    → IsUnder log root a × IsUnder log root b
+under_operands log root next a b at before u =
+    let either = λ (q : Leaf). ap (has_leaf q) (terms_step log next (Union a b) at before) ∙ has-joined q (terms log a) (terms log b) in (
+      record { above_0 = before.0; stands = omega (arith, before, u.stands); leaves = λ q h. u.leaves q (either q ∙ or_left _ _ h) },
+      record { above_0 = omega (arith, before); stands = omega (arith, before, u.stands); leaves = λ q h. u.leaves q (either q ∙ or_right _ _ h) },
+    )
 
 -- ---- one turn of the loop
-
-pub leaf_step : (log : List Entry) (root round : ℕ) (marks stack rest : List ℕ) (next : ℕ) (found more : Terms) (e : Entry)
-    → stack ≡ rest ++ next ∷ [] → entry_at log next ≡ Some e → ((q : Leaf) → has_leaf q more ≡ (has_leaf q found || has_leaf q (terms log next)))
-    → (((q : Leaf) → has_leaf q (terms log next) ≡ true → has_leaf q more ≡ true) → IsDone marks round more e)
-    → IsWalk log root round marks stack found none_open
-    → IsWalk log root round marks rest more none_open
-leaf_step log root round marks stack rest next found more e is at has-more done w =
-    let p = popped log root round marks stack rest next found is w in
-    closed log root round marks rest more next e at (done (λ q h. has-more q ∙ or_right (has_leaf q found) (has_leaf q (terms log next)) h))
-    (found_more log root round marks rest found more (λ m. m ≡ next)
-    (λ q h. has-more q ∙ or_left (has_leaf q found) (has_leaf q (terms log next)) h)
-    (λ q h. elim (or_cases (has_leaf q found) (has_leaf q (terms log next)) (sym (has-more q) ∙ h)) [ inl k ↦ w.within q k | inr k ↦ p.0.leaves q k ])
-    p.1)
-
--- the leaves of a node that is no union
-pub source_term_under : (log : List Entry) (n : ℕ) (b : SourceByte) → entry_at log n ≡ Some (Source b) → terms log n ≡ source_term b
-source_term_under log n b at = terms_step log n (Source b) at tt
-
-pub source_under : (log : List Entry) (n : ℕ) (b : SourceByte) (r : SourceRun) → entry_at log n ≡ Some (Source b) → bytes_of r ≡ b ∷ [] → terms log n ≡ run_term r
-source_under log n b r at is = terms_step log n (Source b) at tt ∙ ap (λ (bs : List SourceByte). record { sources = bs; starts = [] }) (sym is)
-
-pub run_under : (log : List Entry) (n c a b : ℕ) → entry_at log n ≡ Some (Run c a b) → terms log n ≡ run_term (record { channel = c; first = a; last = b })
-run_under log n c a b at = terms_step log n (Run c a b) at tt
-
-pub start_under : (log : List Entry) (n : ℕ) (l : Loc) → entry_at log n ≡ Some (Start l) → terms log n ≡ start_term l
-start_under log n l at = terms_step log n (Start l) at tt
 
 -- leaves that were added are those under the node
 pub leaves_added : (log : List Entry) (n : ℕ) (u : Leaves) (found more : Terms) → terms log n ≡ leaves_terms u → more ≡ and_leaves u found
     → (q : Leaf) → has_leaf q more ≡ (has_leaf q found || has_leaf q (terms log n))
 leaves_added log n u found more under is q = ap (has_leaf q) is ∙ has-more q u found ∙ ap (λ (t : Terms). has_leaf q found || has_leaf q t) (sym under)
+
+leaf_done : (log : List Entry) (marks : List ℕ) (round n : ℕ) (e : Entry) → entry_at log n ≡ Some e → IsLeaf e → IsDone marks round (terms log n) e
+leaf_done log marks round n (Union a b) at leaf = absurd leaf
+leaf_done log marks round n e at leaf = λ q h. ap (has_leaf q) (terms_step log n e at tt) ∙ h
+
+-- the leaves of a node that is no union are found
+pub leaf_step : (log : List Entry) (root round : ℕ) (marks stack rest : List ℕ) (next : ℕ) (found more : Terms) (e : Entry) (u : Leaves)
+    → stack ≡ rest ++ next ∷ [] → entry_at log next ≡ Some e → IsLeaf e → terms log next ≡ leaves_terms u → more ≡ and_leaves u found → IsWalk log root round marks stack found none_open
+    → IsWalk log root round marks rest more none_open
+leaf_step log root round marks stack rest next found more e u is at leaf under grown w =
+    let p = popped log root round marks stack rest next found is w in
+    let has = leaves_added log next u found more under grown in
+    closed log root round marks rest more next e at
+    (done_found marks round (terms log next) more e (λ q h. has q ∙ or_right (has_leaf q found) (has_leaf q (terms log next)) h) (leaf_done log marks round next e at leaf))
+    (found_more log root round marks rest found more (λ m. m ≡ next)
+    (λ q h. has q ∙ or_left (has_leaf q found) (has_leaf q (terms log next)) h)
+    (λ q h. elim (or_cases (has_leaf q found) (has_leaf q (terms log next)) (sym (has q) ∙ h)) [ inl k ↦ w.within q k | inr k ↦ p.0.leaves q k ])
+    p.1)
+
+-- a source byte is a run of one
+pub source_under : (log : List Entry) (n : ℕ) (b : SourceByte) (r : SourceRun) → entry_at log n ≡ Some (Source b) → bytes_of r ≡ b ∷ [] → terms log n ≡ run_term r
+source_under log n b r at is = terms_step log n (Source b) at tt ∙ ap (λ (bs : List SourceByte). record { sources = bs; starts = [] }) (sym is)
 
 -- the union that was taken is done, when both operands were visited
 pub union_step : (log : List Entry) (root round round1 round2 : ℕ) (marks marks1 marks2 stack rest stack1 stack2 : List ℕ) (next : ℕ) (found : Terms) (a b : ℕ)
@@ -244,12 +224,11 @@ pub union_step : (log : List Entry) (root round round1 round2 : ℕ) (marks mark
     → IsWalk log root round2 marks2 stack2 found none_open
 union_step log root round round1 round2 marks marks1 marks2 stack rest stack1 stack2 next found a b is room at before one two w =
     let p = popped log root round marks stack rest next found is w in
-    let u = under_left log root next a b at before p.0 in
-    let v = under_right log root next a b at before p.0 in
-    let a_in : a < length marks = omega (arith, u.stands, room) in
-    let b_in : b < length marks1 = omega (arith, v.stands, room, visit_length one) in
-    let first = visit_walk one log root found (λ m. m ≡ next) a_in u p.1 in
-    let second = visit_walk two log root found (λ m. m ≡ next) b_in v first in
+    let u = under_operands log root next a b at before p.0 in
+    let a_in : a < length marks = (let stands = u.0.stands in omega (arith, stands, room)) in
+    let b_in : b < length marks1 = (let stands = u.1.stands in omega (arith, stands, room, visit_length one)) in
+    let first = visit_walk one log root found (λ m. m ≡ next) a_in u.0 p.1 in
+    let second = visit_walk two log root found (λ m. m ≡ next) b_in u.1 first in
     closed log root round2 marks2 stack2 found next (Union a b) at (visit_marked two b_in a (visit_marks one a_in), visit_marks two b_in) second
 
 -- and then fewer steps are left

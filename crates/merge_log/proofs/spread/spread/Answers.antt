@@ -1,7 +1,8 @@
 use Rattle.std.proofs.Common.{arith, ◌≡◌, ◌∙◌, ℕ, ap, sym, subst, List}
 use Rattle.std.proofs.lemmas.Result.{on_ok_weaker}
 use Rattle.merge_log.specs.declared.finding.Leaves.TheVariants.{Run, Start}
-use Rattle.merge_log.proofs.Walking.{source_under, run_under, start_under}
+use Rattle.merge_log.proofs.Terms.{terms_step}
+use Rattle.merge_log.proofs.Walking.{source_under}
 use Rattle.merge_log.specs.Masks.{HasBit, IsCover, found_at}
 use Rattle.merge_log.proofs.Covering.{added, no_bit, leaf_cover, union_cover}
 use Rattle.merge_log.proofs.spread.spread.Goals as goal
@@ -14,12 +15,12 @@ returns-in-Source-clause-covers c =
 pub returns-in-Run-clause-covers : goal.returns-in-Run-clause-covers
 returns-in-Run-clause-covers c =
     on_ok_weaker c.give-in-Run.result (λ given r root h cover. leaf_cover _ root _ c.args.node c.args.mask r _ _ (Run (record { channel = c.in-Run.channel; first = c.in-Run.first; last = c.in-Run.last }))
-    (run_under c.args.log.now c.args.node _ _ _ c.in-Run.ensures.at) (no_bit _ _ r _ (omega arith) c.requires.clear) (given r h) cover) c.give-in-Run.ensures.given
+    (terms_step c.args.log.now c.args.node _ c.in-Run.ensures.at tt) (no_bit _ _ r _ (omega arith) c.requires.clear) (given r h) cover) c.give-in-Run.ensures.given
 
 pub returns-in-Start-clause-covers : goal.returns-in-Start-clause-covers
 returns-in-Start-clause-covers c =
     on_ok_weaker c.give-in-Start.result (λ given r root h cover. leaf_cover _ root _ c.args.node c.args.mask r _ _ (Start c.in-Start.loc)
-    (start_under c.args.log.now c.args.node c.in-Start.loc c.in-Start.ensures.at) (no_bit _ _ r _ (omega arith) c.requires.clear) (given r h) cover) c.give-in-Start.ensures.given
+    (terms_step c.args.log.now c.args.node _ c.in-Start.ensures.at tt) (no_bit _ _ r _ (omega arith) c.requires.clear) (given r h) cover) c.give-in-Start.ensures.given
 
 pub returns-in-Union-clause-covers : goal.returns-in-Union-clause-covers
 returns-in-Union-clause-covers c =

@@ -1,10 +1,10 @@
-use Rattle.std.proofs.Common.{◌≡◌, ◌<◌, [], ℕ, List, length, ap, ◌∙◌, subst, arith}
+use Rattle.std.proofs.Common.{◌≡◌, ◌<◌, [], ℕ, List, length, subst, arith}
 use Rattle.std.proofs.lemmas.List.{nil_from_length}
-use Rattle.merge_log.specs.Walk.{has_leaf, terms_of}
+use Rattle.merge_log.specs.Walk.{terms_of}
 use Rattle.merge_log.proofs.Marks.{IsVisit, visit_length}
-use Rattle.merge_log.specs.declared.nodes.Entry.TheVariants.{Source}
 use Rattle.merge_log.specs.declared.finding.Leaves.TheVariants.{Run, Start}
-use Rattle.merge_log.proofs.Walking.{IsWalk, none_open, popped, leaf_step, leaves_added, source_term_under, source_under, run_under, start_under, union_step, union_cost, walk_ends}
+use Rattle.merge_log.proofs.Terms.{terms_step}
+use Rattle.merge_log.proofs.Walking.{IsWalk, none_open, popped, leaf_step, source_under, union_step, union_cost, walk_ends}
 use Rattle.merge_log.proofs.walk.walk.Goals as goal
 
 pub entry-requires-clause-above_0 : goal.entry-requires-clause-above_0
@@ -14,29 +14,24 @@ pub entry-requires-clause-stands : goal.entry-requires-clause-stands
 entry-requires-clause-stands c = (popped _ _ _ _ _ _ _ _ c.in-Some.ensures.items c.loop-next.invariant.walk).0.stands
 
 pub loop-next-preserved-in-Continue-branch-2 : goal.loop-next-preserved-in-Continue-branch-2
-loop-next-preserved-in-Continue-branch-2 c =
-    let under = source_under c.args.log.now c.in-Some.next c.in-Source.byte c.of_byte.result c.in-Source.ensures.at c.of_byte.ensures in
-    record {
-      room = c.loop-next.invariant.room;
-      walk = leaf_step _ _ _ _ _ _ _ _ _ (Source c.in-Source.byte) c.in-Some.ensures.items c.in-Source.ensures.at
-          (leaves_added c.args.log.now c.in-Some.next (Run c.of_byte.result) _ _ under c.in_ok-add-in-Source.ensures)
-          (λ h q k. h q (ap (has_leaf q) (source_term_under c.args.log.now c.in-Some.next c.in-Source.byte c.in-Source.ensures.at) ∙ k)) c.loop-next.invariant.walk;
-    }
+loop-next-preserved-in-Continue-branch-2 c = record {
+  room = c.loop-next.invariant.room;
+  walk = leaf_step _ _ _ _ _ _ _ _ _ _ (Run c.of_byte.result) c.in-Some.ensures.items c.in-Source.ensures.at tt
+      (source_under c.args.log.now c.in-Some.next _ _ c.in-Source.ensures.at c.of_byte.ensures) c.in_ok-add-in-Source.ensures c.loop-next.invariant.walk;
+}
 
 pub loop-next-preserved-in-Continue-branch-3 : goal.loop-next-preserved-in-Continue-branch-3
 loop-next-preserved-in-Continue-branch-3 c = record {
   room = c.loop-next.invariant.room;
-  walk = leaf_step _ _ _ _ _ _ _ _ _ _ c.in-Some.ensures.items c.in-Run.ensures.at
-      (leaves_added c.args.log.now c.in-Some.next (Run (record { channel = c.in-Run.channel; first = c.in-Run.first; last = c.in-Run.last })) _ _ (run_under c.args.log.now c.in-Some.next _ _ _ c.in-Run.ensures.at) c.in_ok-add-in-Run.ensures)
-      (λ h q k. h q (ap (has_leaf q) (run_under c.args.log.now c.in-Some.next _ _ _ c.in-Run.ensures.at) ∙ k)) c.loop-next.invariant.walk;
+  walk = leaf_step _ _ _ _ _ _ _ _ _ _ (Run (record { channel = c.in-Run.channel; first = c.in-Run.first; last = c.in-Run.last })) c.in-Some.ensures.items c.in-Run.ensures.at tt
+      (terms_step c.args.log.now c.in-Some.next _ c.in-Run.ensures.at tt) c.in_ok-add-in-Run.ensures c.loop-next.invariant.walk;
 }
 
 pub loop-next-preserved-in-Continue-branch-4 : goal.loop-next-preserved-in-Continue-branch-4
 loop-next-preserved-in-Continue-branch-4 c = record {
   room = c.loop-next.invariant.room;
-  walk = leaf_step _ _ _ _ _ _ _ _ _ _ c.in-Some.ensures.items c.in-Start.ensures.at
-      (leaves_added c.args.log.now c.in-Some.next (Start c.in-Start.loc) _ _ (start_under c.args.log.now c.in-Some.next c.in-Start.loc c.in-Start.ensures.at) c.in_ok-add-in-Start.ensures)
-      (λ h q k. h q (ap (has_leaf q) (start_under c.args.log.now c.in-Some.next c.in-Start.loc c.in-Start.ensures.at) ∙ k)) c.loop-next.invariant.walk;
+  walk = leaf_step _ _ _ _ _ _ _ _ _ _ (Start c.in-Start.loc) c.in-Some.ensures.items c.in-Start.ensures.at tt
+      (terms_step c.args.log.now c.in-Some.next _ c.in-Start.ensures.at tt) c.in_ok-add-in-Start.ensures c.loop-next.invariant.walk;
 }
 
 pub visit-requires-in-Union : goal.visit-requires-in-Union
