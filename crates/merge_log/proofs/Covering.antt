@@ -15,8 +15,9 @@ use Rattle.merge_log.specs.declared.reader.Leaf.{Leaf}
 use Rattle.merge_log.specs.declared.reader.Leaf.TheVariants as leaf
 use Rattle.merge_log.specs.Log.{Terms, no_terms, joined, terms, HasOperandsBefore, entry_at}
 use Rattle.merge_log.specs.Walk.{has_leaf}
-use Rattle.merge_log.specs.Masks.{HasBit, IsClearFrom, IsCover, IsLeftToo, with_leaves}
+use Rattle.merge_log.specs.Masks.{HasBit, IsClearFrom, IsCover, IsLeftToo, found_at, with_leaves}
 use Rattle.merge_log.proofs.Leaves.{has-joined, leaves_terms}
+use Rattle.merge_log.specs.declared.finding.FoundLeaves.{FoundLeaves}
 use Rattle.merge_log.specs.declared.finding.Leaves.{Leaves}
 use Rattle.merge_log.proofs.Walking.{leaves_added}
 use Rattle.merge_log.proofs.Roots.{number_case, leaves_kept}
@@ -44,16 +45,17 @@ added masks n mask = set masks n (bit_or (slice_index masks n) mask)
 added_bit : (masks : List ℕ) (n mask r m : ℕ) → m ≡ n → n < length masks → bit_at (slice_index (added masks n mask) m) r ≡ bit_at (bit_or (slice_index masks n) mask) r
 added_bit masks n mask r m e h = ap (λ (i : ℕ). bit_at i r) (get_or-set_at masks n m (bit_or (slice_index masks n) mask) 0 e h)
 
+pub either_bit : (a b k : ℕ) → bit_at (bit_or a b) k ≡ 1 → (bit_at a k ≡ 1) ⊎ (bit_at b k ≡ 1)
+either_bit a b k h = elim (number_case (bit_at a k) 1) [
+  | inl e ↦ inl e
+  | inr e ↦ inr (let most = sym (bit_at_or a b k) ∙ h in let small = bit_at-lt a k in omega (arith, most, small, e))
+]
+
 pub added_back : (masks : List ℕ) (n mask r m : ℕ) → n < length masks → HasBit (added masks n mask) r m → HasBit masks r m ⊎ ((m ≡ n) × (bit_at mask r ≡ 1))
 added_back masks n mask r m h k = elim (number_case m n) [
-  | inl e ↦ either (sym (bit_at_or (slice_index masks n) mask r) ∙ sym (added_bit masks n mask r m e h) ∙ k) e
+  | inl e ↦ elim (either_bit (slice_index masks n) mask r (sym (added_bit masks n mask r m e h) ∙ k)) [ inl u ↦ inl (ap (λ (i : ℕ). bit_at (slice_index masks i) r) e ∙ u) | inr u ↦ inr (e, u) ]
   | inr e ↦ inl (ap (λ (i : ℕ). bit_at i r) (sym (get_or-set_other masks n m (bit_or (slice_index masks n) mask) 0 e)) ∙ k)
-] where
-  either : max (bit_at (slice_index masks n) r) (bit_at mask r) ≡ 1 → m ≡ n → HasBit masks r m ⊎ ((m ≡ n) × (bit_at mask r ≡ 1))
-  either p e = by (bit_at mask r == 1) refl where
-    by : (b : Bool) → (bit_at mask r == 1) ≡ b → HasBit masks r m ⊎ ((m ≡ n) × (bit_at mask r ≡ 1))
-    by true q = inr (e, grind (arith, common_steps))
-    by false q = inl (ap (λ (i : ℕ). bit_at (slice_index masks i) r) e ∙ grind (arith, common_steps, p, q, bit_at-lt mask r))
+]
 
 pub added_on : (masks : List ℕ) (n mask r m : ℕ) → n < length masks → HasBit masks r m → HasBit (added masks n mask) r m
 added_on masks n mask r m h k = elim (number_case m n) [
@@ -102,47 +104,21 @@ root_added past roots masks root n is few n_in a = record {
 
 -- ---- one root
 
--- a node is left for its operands
-pub cover_operands : (log : List Entry) (root : ℕ) (old new : ℕ → Type 0) (found : Terms) (n a b : ℕ) → terms log n ≡ joined (terms log a) (terms log b)
-    → ((m : ℕ) → new m → old m ⊎ (((m ≡ a) ⊎ (m ≡ b)) × old n)) → ((m : ℕ) → old m → (m ≡ n) ⊎ new m) → (old n → new a × new b)
-    → IsCover log root old found → IsCover log root new found
-cover_operands log root old new found n a b is back on operands c = record {
-  under = λ m h q t. elim (back m h) [
-    | inl p ↦ c.under m p q t
-    | inr p ↦ c.under n p.1 q (under_n q (elim p.0 [ inl e ↦ inl (ap (λ (i : ℕ). has_leaf q (terms log i)) (sym e) ∙ t) | inr e ↦ inr (ap (λ (i : ℕ). has_leaf q (terms log i)) (sym e) ∙ t) ]))
-  ];
-  within = c.within;
-  covered = λ q t. elim (c.covered q t) [ inl p ↦ inl p | inr p ↦ left q p.0 p.1 p.2 ];
+-- the leaf is found, or under a node that is left
+abbrev Reaches : List Entry → (ℕ → Type 0) → Terms → Leaf → Type 0
+Reaches log is_left found q = (has_leaf q found ≡ true) ⊎ ((m : ℕ) × is_left m × (has_leaf q (terms log m) ≡ true))
+
+-- other nodes are left, and others leaves found, by which the same are reached
+cover_changed : (log : List Entry) (root : ℕ) (old new : ℕ → Type 0) (found more : Terms) → ((q : Leaf) → Reaches log new more q → Reaches log old found q)
+    → ((q : Leaf) → Reaches log old found q → Reaches log new more q) → IsCover log root old found → IsCover log root new more
+cover_changed log root old new found more back on c = record {
+  under = λ m h q t. reached q (back q (inr (m, h, t)));
+  within = λ q t. reached q (back q (inl t));
+  covered = λ q t. on q (c.covered q t);
 } where
-  under_n : (q : Leaf) → (has_leaf q (terms log a) ≡ true) ⊎ (has_leaf q (terms log b) ≡ true) → has_leaf q (terms log n) ≡ true
-  under_n q (inl t) = ap (has_leaf q) is ∙ has-joined q (terms log a) (terms log b) ∙ or_left (has_leaf q (terms log a)) (has_leaf q (terms log b)) t
-  under_n q (inr t) = ap (has_leaf q) is ∙ has-joined q (terms log a) (terms log b) ∙ or_right (has_leaf q (terms log a)) (has_leaf q (terms log b)) t
-
-  left : (q : Leaf) (m : ℕ) → old m → has_leaf q (terms log m) ≡ true → has_leaf q found ≡ true ⊎ ((i : ℕ) × new i × (has_leaf q (terms log i) ≡ true))
-  left q m h t = elim (on m h) [
-    | inr p ↦ inr (m, p, t)
-    | inl e ↦ let both = operands (subst old e h) in
-        elim (or_cases (has_leaf q (terms log a)) (has_leaf q (terms log b)) (sym (has-joined q (terms log a) (terms log b)) ∙ sym (ap (has_leaf q) is) ∙ ap (λ (i : ℕ). has_leaf q (terms log i)) (sym e) ∙ t)) [
-          | inl u ↦ inr (a, both.0, u)
-          | inr u ↦ inr (b, both.1, u)
-        ]
-  ]
-
--- the leaf of a node is found
-pub cover_leaf : (log : List Entry) (root : ℕ) (old new : ℕ → Type 0) (found more : Terms) (n : ℕ) → ((m : ℕ) → new m → old m) → ((m : ℕ) → old m → (m ≡ n) ⊎ new m)
-    → ((q : Leaf) → has_leaf q found ≡ true → has_leaf q more ≡ true) → ((q : Leaf) → has_leaf q more ≡ true → has_leaf q found ≡ true ⊎ (old n × (has_leaf q (terms log n) ≡ true)))
-    → (old n → (q : Leaf) → has_leaf q (terms log n) ≡ true → has_leaf q more ≡ true) → IsCover log root old found → IsCover log root new more
-cover_leaf log root old new found more n back on keeps only given c = record {
-  under = λ m h. c.under m (back m h);
-  within = λ q t. elim (only q t) [ inl p ↦ c.within q p | inr p ↦ c.under n p.0 q p.1 ];
-  covered = λ q t. elim (c.covered q t) [
-    | inl p ↦ inl (keeps q p)
-    | inr p ↦ elim (on p.0 p.1) [
-      | inl e ↦ inl (given (subst old e p.1) q (ap (λ (i : ℕ). has_leaf q (terms log i)) (sym e) ∙ p.2))
-      | inr k ↦ inr (p.0, k, p.2)
-    ]
-  ];
-}
+  reached : (q : Leaf) → Reaches log old found q → has_leaf q (terms log root) ≡ true
+  reached q (inl t) = c.within q t
+  reached q (inr p) = c.under p.0 p.1 q p.2
 
 -- nothing is left
 pub cover_ends : (log : List Entry) (root : ℕ) (is_left : ℕ → Type 0) (found : Terms) → ((m : ℕ) → is_left m → ⊥) → IsCover log root is_left found → (q : Leaf) → has_leaf q found ≡ has_leaf q (terms log root)
@@ -155,55 +131,68 @@ cover_ends log root is_left found none c q =
 pub no_bit : (masks : List ℕ) (past r m : ℕ) → past ≤ m → IsClearFrom masks past → HasBit masks r m → ⊥
 no_bit masks past r m h c k = let none : ◌≡◌ {A = ℕ} 0 1 = sym (ap (λ (i : ℕ). bit_at i r) (c m h) ∙ bit_at-zero r) ∙ k in omega arith
 
-given_cover : (log : List Entry) (root : ℕ) (masks : List ℕ) (node mask r : ℕ) (found more : Terms) → (HasBit masks r node → ⊥)
-    → ((bit_at mask r ≡ 1) × ((q : Leaf) → has_leaf q more ≡ (has_leaf q found || has_leaf q (terms log node)))) ⊎ ((bit_at mask r ≢ 1) × (more ≡ found))
-    → IsCover log root (IsLeftToo masks node mask r) found → IsCover log root (HasBit masks r) more
-given_cover log root masks node mask r found more none either c =
-    cover_leaf log root (IsLeftToo masks node mask r) (HasBit masks r) found more node (λ m h. inl h) (λ m h. elim h [ inl p ↦ inr p | inr p ↦ inl p.0 ]) keeps only given c where
-      keeps : (q : Leaf) → has_leaf q found ≡ true → has_leaf q more ≡ true
-      keeps q t = elim either [ inl p ↦ p.1 q ∙ or_left (has_leaf q found) (has_leaf q (terms log node)) t | inr p ↦ ap (has_leaf q) p.1 ∙ t ]
+no_leaf : (q : Leaf) → has_leaf q no_terms ≡ false
+no_leaf (leaf.Source b) = refl
+no_leaf (leaf.Start l) = refl
 
-      only : (q : Leaf) → has_leaf q more ≡ true → (has_leaf q found ≡ true) ⊎ (IsLeftToo masks node mask r node × (has_leaf q (terms log node) ≡ true))
-      only q t = elim either [
-        | inl p ↦ elim (or_cases (has_leaf q found) (has_leaf q (terms log node)) (sym (p.1 q) ∙ t)) [ inl u ↦ inl u | inr u ↦ inr (inr (refl, p.0), u) ]
-        | inr p ↦ inl (sym (ap (has_leaf q) p.1) ∙ t)
-      ]
-
-      given : IsLeftToo masks node mask r node → (q : Leaf) → has_leaf q (terms log node) ≡ true → has_leaf q more ≡ true
-      given (inl h) q t = absurd (none h)
-      given (inr h) q t = elim either [ inl p ↦ p.1 q ∙ or_right (has_leaf q found) (has_leaf q (terms log node)) t | inr p ↦ absurd (p.0 h.1) ]
+has_at : (log : List Entry) (q : Leaf) (m n : ℕ) → m ≡ n → has_leaf q (terms log m) ≡ true → has_leaf q (terms log n) ≡ true
+has_at log q m n e t = ap (λ (i : ℕ). has_leaf q (terms log i)) (sym e) ∙ t
 
 -- leaves are given to a root whose bit is set
-pub leaf_cover : (log : List Entry) (root : ℕ) (masks : List ℕ) (node mask r : ℕ) (found more : Terms) (given : Leaves) → terms log node ≡ leaves_terms given → (HasBit masks r node → ⊥)
+pub leaf_cover : (log : List Entry) (root : ℕ) (masks : List ℕ) (node mask r : ℕ) (found more : Terms) (given : Leaves) → terms log node ≡ leaves_terms given
     → more ≡ with_leaves (bit_at mask r) given found → IsCover log root (IsLeftToo masks node mask r) found → IsCover log root (HasBit masks r) more
-leaf_cover log root masks node mask r found more given under none is = given_cover log root masks node mask r found more none (elim (number_case (bit_at mask r) 1) [
-  | inl e ↦ inl (e, leaves_added log node given found more under (is ∙ ap (λ (i : ℕ). with_leaves i given found) e))
-  | inr e ↦ inr (e, is ∙ leaves_kept (bit_at mask r) given found e)
-])
+leaf_cover log root masks node mask r found more given under is =
+    cover_changed log root (IsLeftToo masks node mask r) (HasBit masks r) found more (back (number_case (bit_at mask r) 1)) (on (number_case (bit_at mask r) 1)) where
+      grown : bit_at mask r ≡ 1 → (q : Leaf) → has_leaf q more ≡ (has_leaf q found || has_leaf q (terms log node))
+      grown e = leaves_added log node given found more under (is ∙ ap (λ (i : ℕ). with_leaves i given found) e)
 
-pub union_cover : (log : List Entry) (root : ℕ) (masks : List ℕ) (node mask r : ℕ) (found : Terms) (a b : ℕ) → entry_at log node ≡ Some (Union a b) → HasOperandsBefore node (Union a b) → node < length masks → (HasBit masks r node → ⊥)
+      kept : bit_at mask r ≢ 1 → more ≡ found
+      kept e = is ∙ leaves_kept (bit_at mask r) given found e
+
+      back : (bit_at mask r ≡ 1) ⊎ (bit_at mask r ≢ 1) → (q : Leaf) → Reaches log (HasBit masks r) more q → Reaches log (IsLeftToo masks node mask r) found q
+      back either q (inr p) = inr (p.0, inl p.1, p.2)
+      back (inl e) q (inl t) = elim (or_cases (has_leaf q found) (has_leaf q (terms log node)) (sym (grown e q) ∙ t)) [ inl u ↦ inl u | inr u ↦ inr (node, inr (refl, e), u) ]
+      back (inr e) q (inl t) = inl (sym (ap (has_leaf q) (kept e)) ∙ t)
+
+      on : (bit_at mask r ≡ 1) ⊎ (bit_at mask r ≢ 1) → (q : Leaf) → Reaches log (IsLeftToo masks node mask r) found q → Reaches log (HasBit masks r) more q
+      on (inl e) q (inl t) = inl (grown e q ∙ or_left (has_leaf q found) (has_leaf q (terms log node)) t)
+      on (inr e) q (inl t) = inl (ap (has_leaf q) (kept e) ∙ t)
+      on (inl e) q (inr p) = elim p.1 [ inl h ↦ inr (p.0, h, p.2) | inr h ↦ inl (grown e q ∙ or_right (has_leaf q found) (has_leaf q (terms log node)) (has_at log q p.0 node h.0 p.2)) ]
+      on (inr e) q (inr p) = elim p.1 [ inl h ↦ inr (p.0, h, p.2) | inr h ↦ absurd (e h.1) ]
+
+-- a node is left for its operands
+pub union_cover : (log : List Entry) (root : ℕ) (masks : List ℕ) (node mask r : ℕ) (found : Terms) (a b : ℕ) → entry_at log node ≡ Some (Union a b) → HasOperandsBefore node (Union a b) → node < length masks
     → IsCover log root (IsLeftToo masks node mask r) found → IsCover log root (HasBit (added (added masks a mask) b mask) r) found
-union_cover log root masks node mask r found a b at before room none c =
-    cover_operands log root (IsLeftToo masks node mask r) (HasBit (added (added masks a mask) b mask) r) found node a b (terms_step log node (Union a b) at before) back on operands c where
+union_cover log root masks node mask r found a b at before room =
+    cover_changed log root (IsLeftToo masks node mask r) (HasBit (added (added masks a mask) b mask) r) found found back on where
       a_in : a < length masks
       a_in = omega (arith, before, room)
 
       b_in : b < length (added masks a mask)
       b_in = rw length-set (omega (arith, before, room))
 
-      back : (m : ℕ) → HasBit (added (added masks a mask) b mask) r m → IsLeftToo masks node mask r m ⊎ (((m ≡ a) ⊎ (m ≡ b)) × IsLeftToo masks node mask r node)
-      back m h = elim (added_back (added masks a mask) b mask r m b_in h) [
-        | inl p ↦ elim (added_back masks a mask r m a_in p) [ inl u ↦ inl (inl u) | inr u ↦ inr (inl u.0, inr (refl, u.1)) ]
-        | inr p ↦ inr (inr p.0, inr (refl, p.1))
+      either : (q : Leaf) → has_leaf q (terms log node) ≡ (has_leaf q (terms log a) || has_leaf q (terms log b))
+      either q = ap (has_leaf q) (terms_step log node (Union a b) at before) ∙ has-joined q (terms log a) (terms log b)
+
+      back : (q : Leaf) → Reaches log (HasBit (added (added masks a mask) b mask) r) found q → Reaches log (IsLeftToo masks node mask r) found q
+      back q (inl t) = inl t
+      back q (inr p) = elim (added_back (added masks a mask) b mask r p.0 b_in p.1) [
+        | inl h ↦ elim (added_back masks a mask r p.0 a_in h) [
+          | inl u ↦ inr (p.0, inl u, p.2)
+          | inr u ↦ inr (node, inr (refl, u.1), either q ∙ or_left (has_leaf q (terms log a)) (has_leaf q (terms log b)) (has_at log q p.0 a u.0 p.2))
+        ]
+        | inr u ↦ inr (node, inr (refl, u.1), either q ∙ or_right (has_leaf q (terms log a)) (has_leaf q (terms log b)) (has_at log q p.0 b u.0 p.2))
       ]
 
-      on : (m : ℕ) → IsLeftToo masks node mask r m → (m ≡ node) ⊎ HasBit (added (added masks a mask) b mask) r m
-      on m (inl h) = inr (added_on (added masks a mask) b mask r m b_in (added_on masks a mask r m a_in h))
-      on m (inr h) = inl h.0
-
-      operands : IsLeftToo masks node mask r node → HasBit (added (added masks a mask) b mask) r a × HasBit (added (added masks a mask) b mask) r b
-      operands (inl h) = absurd (none h)
-      operands (inr h) = (added_on (added masks a mask) b mask r a b_in (added_now masks a mask r a_in h.1), added_now (added masks a mask) b mask r b_in h.1)
+      on : (q : Leaf) → Reaches log (IsLeftToo masks node mask r) found q → Reaches log (HasBit (added (added masks a mask) b mask) r) found q
+      on q (inl t) = inl t
+      on q (inr p) = elim p.1 [
+        | inl h ↦ inr (p.0, added_on (added masks a mask) b mask r p.0 b_in (added_on masks a mask r p.0 a_in h), p.2)
+        | inr h ↦ elim (or_cases (has_leaf q (terms log a)) (has_leaf q (terms log b)) (sym (either q) ∙ has_at log q p.0 node h.0 p.2)) [
+          | inl u ↦ inr (a, added_on (added masks a mask) b mask r a b_in (added_now masks a mask r a_in h.1), u)
+          | inr u ↦ inr (b, added_now (added masks a mask) b mask r b_in h.1, u)
+        ]
+      ]
 
 -- the mask of a node is taken
 pub taken_cover : (log : List Entry) (root : ℕ) (masks : List ℕ) (node r : ℕ) (found : Terms) → node < length masks → IsCover log root (HasBit masks r) found
@@ -218,36 +207,38 @@ taken_cover log root masks node r found h c = record {
 }
 
 -- the empty node has no leaf
-pub nothing_cover : (log : List Entry) (root : ℕ) (masks : List ℕ) (r : ℕ) (found : Terms) → 0 < length masks → IsCover log root (HasBit masks r) found → IsCover log root (HasBit (set masks 0 0) r) found
-nothing_cover log root masks r found h c = record {
-  under = λ m k. c.under m (taken_back masks 0 r m h k);
-  within = c.within;
-  covered = λ q t. elim (c.covered q t) [
-    | inl p ↦ inl p
-    | inr p ↦ elim (taken_on masks 0 r p.0 p.1) [
-      | inl e ↦ true-false (sym p.2 ∙ ap (λ (i : ℕ). has_leaf q (terms log i)) e ∙ ap (has_leaf q) (nothing_under_0 log) ∙ none q)
-      | inr k ↦ inr (p.0, k, p.2)
-    ]
-  ];
-} where
-  none : (q : Leaf) → has_leaf q no_terms ≡ false
-  none (leaf.Source b) = refl
-  none (leaf.Start l) = refl
+pub nothing_cover : (log : List Entry) (root : ℕ) (masks : List ℕ) (node mask r : ℕ) (found : Terms) → node ≡ 0 → IsCover log root (IsLeftToo masks node mask r) found → IsCover log root (HasBit masks r) found
+nothing_cover log root masks node mask r found none = cover_changed log root (IsLeftToo masks node mask r) (HasBit masks r) found found back on where
+  back : (q : Leaf) → Reaches log (HasBit masks r) found q → Reaches log (IsLeftToo masks node mask r) found q
+  back q (inl t) = inl t
+  back q (inr p) = inr (p.0, inl p.1, p.2)
+
+  on : (q : Leaf) → Reaches log (IsLeftToo masks node mask r) found q → Reaches log (HasBit masks r) found q
+  on q (inl t) = inl t
+  on q (inr p) = elim p.1 [ inl h ↦ inr (p.0, h, p.2) | inr h ↦ true-false (sym (has_at log q p.0 0 (h.0 ∙ none) p.2) ∙ ap (has_leaf q) (nothing_under_0 log) ∙ no_leaf q) ]
 
 -- at first the root itself is left
 pub first_cover : (log : List Entry) (root : ℕ) (masks : List ℕ) (r : ℕ) (found : Terms) → found ≡ no_terms → ((m : ℕ) → HasBit masks r m → m ≡ root) → HasBit masks r root → IsCover log root (HasBit masks r) found
 first_cover log root masks r found is only bit = record {
   under = λ m h q t. ap (λ (i : ℕ). has_leaf q (terms log i)) (sym (only m h)) ∙ t;
-  within = λ q t. true-false (sym t ∙ ap (has_leaf q) is ∙ none q);
+  within = λ q t. true-false (sym t ∙ ap (has_leaf q) is ∙ no_leaf q);
   covered = λ q t. inr (root, bit, t);
-} where
-  none : (q : Leaf) → has_leaf q no_terms ≡ false
-  none (leaf.Source b) = refl
-  none (leaf.Start l) = refl
+}
 
--- with the mask of a node taken, none is left from it on
-pub clear_taken : (masks : List ℕ) (n : ℕ) → n < length masks → IsClearFrom masks (n + 1) → IsClearFrom (set masks n 0) n
-clear_taken masks n h c m k = elim (number_case m n) [
-  | inl e ↦ get_or-set_at masks n m 0 0 e h
-  | inr e ↦ get_or-set_other masks n m 0 0 e ∙ c m (omega (arith, k, e))
-]
+-- ---- the mask of the next node is taken
+
+module _ (old masks taken : List ℕ) (node : ℕ) (kept : masks ≡ old) (is : taken ≡ set masks node 0) (inside : node < length masks) where
+  pub taken_room : length taken ≡ length old
+  taken_room = ap length is ∙ length-set masks node 0 ∙ ap length kept
+
+  -- none is left from it on
+  pub clear_taken : IsClearFrom masks (node + 1) → IsClearFrom taken node
+  clear_taken c m k = ap (λ (ms : List ℕ). slice_index ms m) is ∙ elim (number_case m node) [
+    | inl e ↦ get_or-set_at masks node m 0 0 e inside
+    | inr e ↦ get_or-set_other masks node m 0 0 e ∙ c m (omega (arith, k, e))
+  ]
+
+  pub all_taken : (log : List Entry) (roots : List ℕ) (found : List FoundLeaves) (mask : ℕ) → mask ≡ slice_index masks node
+      → ((r : ℕ) → r < length roots → IsCover log (slice_index roots r) (HasBit old r) (found_at found r))
+      → (r : ℕ) → r < length roots → IsCover log (slice_index roots r) (IsLeftToo taken node mask r) (found_at found r)
+  all_taken log roots found mask at covers r h = rw (is, at) (taken_cover log (slice_index roots r) masks node r (found_at found r) inside (rw kept (covers r h)))

@@ -1,41 +1,23 @@
 -- Start locations that are noted as under nodes.
-use Rattle.std.proofs.Common.{◌≡◌, ℕ, zero, suc, ◌+◌, ◌-◌, ◌*◌, ◌%◌, ◌^◌, ◌<◌, ◌==◌, max, List, [], ◌∷◌, ◌++◌, length, refl, ap, ap₂, sym, ◌∙◌, subst, Bool, true, false, nat_lt, arith, slice_index, ◌⊎◌, inl, inr, length-append}
+use Rattle.std.proofs.Common.{◌≡◌, ℕ, zero, suc, ◌+◌, ◌-◌, ◌*◌, ◌%◌, ◌^◌, ◌<◌, ◌≤◌, List, [], ◌∷◌, ◌++◌, length, refl, ap, ap₂, sym, ◌∙◌, subst, arith, slice_index, ◌⊎◌, inl, inr, length-append}
 use Rattle.std.specs.Prelude.{Some}
 use Rattle.std.specs.Int.{bit_at, w64}
 use Rattle.std.specs.Int.RustNames.{bit_or}
-use Rattle.std.proofs.lemmas.Grind.{common_steps}
+use Rattle.std.proofs.Math.Seq.{get_or-append_seam}
+use Rattle.std.proofs.lemmas.Bool.{cases_lt}
+use Rattle.std.proofs.lemmas.List.{get_or_append_left, get_or_past}
 use Rattle.std.proofs.lemmas.Option.{slice_get_within}
-use Rattle.std.proofs.lemmas.Nat.Bits.{bit_at_or, bit_at-zero, bit_at-lt, bit_at_set_other}
+use Rattle.std.proofs.lemmas.Nat.Bits.{bit_at_or, bit_at-zero, bit_at_set_other}
 use Rattle.merge_log.specs.declared.nodes.Entry.{Entry}
 use Rattle.merge_log.specs.declared.nodes.Entry.TheVariants.{Union}
 use Rattle.merge_log.specs.Log.{IsNode, AreOrdered, KeepsNodes, Covers, HasOperand, entry_at, joined, terms}
 use Rattle.merge_log.specs.Under.{AreUnder, IsUnder}
+use Rattle.merge_log.proofs.Covering.{either_bit}
 use Rattle.merge_log.proofs.Roots.{number_case}
 use Rattle.merge_log.proofs.Terms.{ascend-terms, joined_itself, entry_before}
 use Rattle.merge_log.proofs.Unions.{operand_covered, covered_through}
 
--- ---- one more item at the end of a list
-
-at_left : (xs : List ℕ) (x k : ℕ) → k < length xs → slice_index (xs ++ x ∷ []) k ≡ slice_index xs k
-at_left [] x k h = absurd (omega (arith, h))
-at_left (y ∷ ys) x zero h = refl
-at_left (y ∷ ys) x (suc k) h = at_left ys x k (omega (arith, h))
-
-at_end : (xs : List ℕ) (x : ℕ) → slice_index (xs ++ x ∷ []) (length xs) ≡ x
-at_end [] x = refl
-at_end (y ∷ ys) x = at_end ys x
-
-at_beyond : (xs : List ℕ) (x k : ℕ) → length xs < k → slice_index (xs ++ x ∷ []) k ≡ 0
-at_beyond [] x zero h = absurd (omega (arith, h))
-at_beyond [] x (suc k) h = refl
-at_beyond (y ∷ ys) x zero h = absurd (omega (arith, h))
-at_beyond (y ∷ ys) x (suc k) h = at_beyond ys x k (omega (arith, h))
-
-before_or : (i n : ℕ) → (i < n) ⊎ (i ≡ n) ⊎ (n < i)
-before_or i n = by (nat_lt i n) refl where
-  by : (b : Bool) → nat_lt i n ≡ b → (i < n) ⊎ (i ≡ n) ⊎ (n < i)
-  by true p = inl (grind (arith, common_steps, p))
-  by false p = elim (number_case i n) [ inl e ↦ inr (inl e) | inr e ↦ inr (inr (grind (arith, common_steps, p, e))) ]
+-- ---- bits
 
 no_bit_of_0 : {A : Type 0} (k : ℕ) → bit_at 0 k ≡ 1 → A
 no_bit_of_0 k b = absurd (let none : ◌≡◌ {A = ℕ} 0 1 = sym (bit_at-zero k) ∙ b in omega arith)
@@ -67,7 +49,7 @@ kept_under old new leaves masks keeps h i k bit =
 -- and where one more start location is noted
 more_leaves : (log : List Entry) (leaves : List ℕ) (x n k : ℕ) → IsUnder log leaves n k → IsUnder log (leaves ++ x ∷ []) n k
 more_leaves log leaves x n k u =
-    let at = at_left leaves x k u.noted in
+    let at = get_or_append_left leaves (x ∷ []) 0 k u.noted in
     record {
       noted = omega (arith, u.noted, length-append leaves (x ∷ []));
       leaf = subst (IsNode log) (sym at) u.leaf;
@@ -78,7 +60,7 @@ more_leaves log leaves x n k u =
 -- a start location is under its own node
 leaf_itself : (log : List Entry) (leaves : List ℕ) (node : ℕ) → IsNode log node → IsUnder log (leaves ++ node ∷ []) node (length leaves)
 leaf_itself log leaves node stands =
-    let at = at_end leaves node in
+    let at = get_or-append_seam leaves node [] 0 in
     record {
       noted = omega (arith, length-append leaves (node ∷ []));
       leaf = subst (IsNode log) (sym at) stands;
@@ -103,15 +85,6 @@ through_operand log leaves masks node o k order under has stands above bit =
       covers = covered_through log node o (slice_index leaves k) (operand_covered log node o order has) (subst (λ (n : ℕ). Covers log n (slice_index leaves k)) same u.covers);
     }
 
-either_bit : (a b k : ℕ) → bit_at (bit_or a b) k ≡ 1 → (bit_at a k ≡ 1) ⊎ (bit_at b k ≡ 1)
-either_bit a b k h = by (bit_at a k == 1) refl where
-  most : max (bit_at a k) (bit_at b k) ≡ 1
-  most = sym (bit_at_or a b k) ∙ h
-
-  by : (c : Bool) → (bit_at a k == 1) ≡ c → (bit_at a k ≡ 1) ⊎ (bit_at b k ≡ 1)
-  by true p = inl (grind (arith, common_steps, p))
-  by false p = inr (grind (arith, common_steps, p, most, bit_at-lt a k))
-
 pub union_under : (log : List Entry) (leaves masks : List ℕ) (node l r : ℕ) → AreOrdered 1 log → AreUnder log leaves masks → entry_at log node ≡ Some (Union l r)
     → (k : ℕ) → bit_at (bit_or (slice_index masks (l - 1)) (slice_index masks (r - 1))) k ≡ 1 → IsUnder log leaves node k
 union_under log leaves masks node l r order under at k bit =
@@ -125,11 +98,15 @@ union_under log leaves masks node l r order under at k bit =
 -- the mask of a new node
 pub mask_pushed : (log : List Entry) (leaves masks : List ℕ) (mask : ℕ) → AreUnder log leaves masks → ((k : ℕ) → bit_at mask k ≡ 1 → IsUnder log leaves (length masks + 1) k)
     → AreUnder log leaves (masks ++ mask ∷ [])
-mask_pushed log leaves masks mask under own i k bit = elim (before_or i (length masks)) [
-  | inl h ↦ under i k (ap (λ (m : ℕ). bit_at m k) (sym (at_left masks mask i h)) ∙ bit)
-  | inr (inl e) ↦ subst (λ (j : ℕ). IsUnder log leaves (j + 1) k) (sym e)
-      (own k (ap (λ (m : ℕ). bit_at m k) (sym (ap (slice_index (masks ++ mask ∷ [])) e ∙ at_end masks mask)) ∙ bit))
-  | inr (inr h) ↦ no_bit_of_0 k (ap (λ (m : ℕ). bit_at m k) (sym (at_beyond masks mask i h)) ∙ bit)
+mask_pushed log leaves masks mask under own i k bit = elim (cases_lt i (length masks)) [
+  | inl h ↦ under i k (ap (λ (m : ℕ). bit_at m k) (sym (get_or_append_left masks (mask ∷ []) 0 i h)) ∙ bit)
+  | inr g ↦ elim (number_case i (length masks)) [
+    | inl e ↦ subst (λ (j : ℕ). IsUnder log leaves (j + 1) k) (sym e)
+        (own k (ap (λ (m : ℕ). bit_at m k) (sym (ap (slice_index (masks ++ mask ∷ [])) e ∙ get_or-append_seam masks mask [] 0)) ∙ bit))
+    | inr e ↦
+        let past : length (masks ++ mask ∷ []) ≤ i = omega (arith, length-append masks (mask ∷ []), g, e) in
+        no_bit_of_0 k (ap (λ (m : ℕ). bit_at m k) (sym (get_or_past (masks ++ mask ∷ []) i 0 past)) ∙ bit)
+  ]
 ]
 
 -- a start location is noted, or none, and the mask of its node

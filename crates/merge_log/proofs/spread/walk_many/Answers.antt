@@ -1,7 +1,6 @@
-use Rattle.std.proofs.Common.{arith, refl, ◌≡◌, ◌<◌, ◌≤◌, ◌∙◌, ℕ, ap, sym, subst, List, length, slice_index, slice_set}
-use Rattle.std.proofs.lemmas.List.{length-set}
-use Rattle.merge_log.specs.Masks.{HasBit, IsClearFrom, IsCover, IsLeftToo, found_at}
-use Rattle.merge_log.proofs.Covering.{clear_taken, cover_ends, first_cover, no_bit, nothing_cover, taken_cover}
+use Rattle.std.proofs.Common.{arith, refl, ◌≡◌, ◌<◌, ◌≤◌, ◌∙◌, ℕ, ap, sym, subst, List, length, slice_index}
+use Rattle.merge_log.specs.Masks.{HasBit, IsClearFrom, found_at}
+use Rattle.merge_log.proofs.Covering.{taken_room, clear_taken, all_taken, cover_ends, first_cover, no_bit, nothing_cover}
 use Rattle.merge_log.proofs.spread.walk_many.Goals as goal
 
 pub loop-node-init : goal.loop-node-init
@@ -19,9 +18,8 @@ loop-node-init c =
 pub spread-requires-clause-clear : goal.spread-requires-clause-clear
 spread-requires-clause-clear c =
     let masks = c.last_below.new.self.masks.items in
-    let node = c.in-Some.node in
-    let node_in : node < length masks = omega (arith, ap length c.in-Some.ensures.kept, c.in-Some.ensures.below, c.loop-node.invariant.below, c.loop-node.invariant.room) in
-    subst (λ (ms : List ℕ). IsClearFrom ms node) (sym c.take-mask.ensures.taken) (clear_taken masks node node_in c.in-Some.ensures.last)
+    let inside : c.in-Some.node < length masks = omega (arith, ap length c.in-Some.ensures.kept, c.in-Some.ensures.below, c.loop-node.invariant.below, c.loop-node.invariant.room) in
+    clear_taken _ masks _ c.in-Some.node c.in-Some.ensures.kept c.take-mask.ensures.taken inside c.in-Some.ensures.last
 
 pub spread-requires-clause-few : goal.spread-requires-clause-few
 spread-requires-clause-few c = subst (λ (n : ℕ). n ≤ 64) (sym c.loop-node.invariant.sets) c.requires.few
@@ -34,48 +32,32 @@ returns-clause-found c r q h =
 
 pub loop-node-preserved-in-Continue-1 : goal.loop-node-preserved-in-Continue-1
 loop-node-preserved-in-Continue-1 c =
-    let log = c.args.log.now in
-    let roots = c.args.roots.now in
-    let node = c.in-Some.node in
+    let l = c.loop-node in
+    let some = c.in-Some.ensures in
     let masks = c.last_below.new.self.masks.items in
-    let taken = c.take-mask.new.self.masks.items in
-    let sets = c.loop-node.found.items in
-    let same : length masks ≡ length c.loop-node.masks.masks.items = ap length c.in-Some.ensures.kept in
-    let node_in : node < length masks = omega (arith, same, c.in-Some.ensures.below, c.loop-node.invariant.below, c.loop-node.invariant.room) in
-    let less : length taken ≡ length masks = ap length c.take-mask.ensures.taken ∙ length-set masks node 0 in
-    let at : (r : ℕ) → r < length roots → IsCover log (slice_index roots r) (HasBit masks r) (found_at sets r)
-    = λ r h. subst (λ (ms : List ℕ). IsCover log (slice_index roots r) (HasBit ms r) (found_at sets r)) (sym c.in-Some.ensures.kept) (c.loop-node.invariant.covers r h) in
-    let left : (r : ℕ) → r < length roots → IsCover log (slice_index roots r) (IsLeftToo taken node c.take-mask.result r) (found_at sets r)
-    = λ r h. subst (λ (k : ℕ). IsCover log (slice_index roots r) (IsLeftToo taken node k r) (found_at sets r)) (sym c.take-mask.ensures.mask)
-    (subst (λ (ms : List ℕ). IsCover log (slice_index roots r) (IsLeftToo ms node (slice_index masks node) r) (found_at sets r)) (sym c.take-mask.ensures.taken)
-    (taken_cover log (slice_index roots r) masks node r (found_at sets r) node_in (at r h))) in
+    let inside : c.in-Some.node < length masks = omega (arith, ap length some.kept, some.below, l.invariant.below, l.invariant.room) in
+    let less = taken_room _ masks _ c.in-Some.node some.kept c.take-mask.ensures.taken inside in
+    let left = all_taken _ masks _ c.in-Some.node some.kept c.take-mask.ensures.taken inside c.args.log.now c.args.roots.now l.found.items _ c.take-mask.ensures.mask l.invariant.covers in
     record {
-      below = omega (arith, c.in-Some.ensures.below, c.loop-node.invariant.below);
-      room = omega (arith, c.in_ok-spread.ensures.room, less, same, c.loop-node.invariant.room);
+      below = omega (arith, some.below, l.invariant.below);
+      room = omega (arith, c.in_ok-spread.ensures.room, less, l.invariant.room);
       clear = c.in_ok-spread.ensures.clear;
-      sets = c.in_ok-spread.ensures.sets ∙ c.loop-node.invariant.sets;
-      covers = λ r h. c.in_ok-spread.ensures.covers r (slice_index roots r) (omega (arith, h, c.loop-node.invariant.sets)) (left r h);
+      sets = c.in_ok-spread.ensures.sets ∙ l.invariant.sets;
+      covers = λ r h. c.in_ok-spread.ensures.covers r (slice_index c.args.roots.now r) (omega (arith, h, l.invariant.sets)) (left r h);
     }
 
 pub loop-node-preserved : goal.loop-node-preserved
 loop-node-preserved c =
-    let log = c.args.log.now in
-    let roots = c.args.roots.now in
-    let node = c.in-Some.node in
+    let l = c.loop-node in
+    let some = c.in-Some.ensures in
     let masks = c.last_below.new.self.masks.items in
-    let taken = c.take-mask.new.self.masks.items in
-    let sets = c.loop-node.found.items in
-    let zero : node ≡ 0 = omega (arith, c.if-node-gt0.false) in
-    let same : length masks ≡ length c.loop-node.masks.masks.items = ap length c.in-Some.ensures.kept in
-    let node_in : node < length masks = omega (arith, same, c.in-Some.ensures.below, c.loop-node.invariant.below, c.loop-node.invariant.room) in
-    let less : length taken ≡ length masks = ap length c.take-mask.ensures.taken ∙ length-set masks node 0 in
-    let first : taken ≡ slice_set masks 0 0 = c.take-mask.ensures.taken ∙ ap (λ (n : ℕ). slice_set masks n 0) zero in
+    let inside : c.in-Some.node < length masks = omega (arith, ap length some.kept, some.below, l.invariant.below, l.invariant.room) in
+    let less = taken_room _ masks _ c.in-Some.node some.kept c.take-mask.ensures.taken inside in
+    let left = all_taken _ masks _ c.in-Some.node some.kept c.take-mask.ensures.taken inside c.args.log.now c.args.roots.now l.found.items _ c.take-mask.ensures.mask l.invariant.covers in
     record {
-      below = omega (arith, c.in-Some.ensures.below, c.loop-node.invariant.below);
-      room = omega (arith, less, same, c.loop-node.invariant.room);
-      clear = subst (λ (ms : List ℕ). IsClearFrom ms node) (sym c.take-mask.ensures.taken) (clear_taken masks node node_in c.in-Some.ensures.last);
-      sets = c.loop-node.invariant.sets;
-      covers = λ r h. subst (λ (ms : List ℕ). IsCover log (slice_index roots r) (HasBit ms r) (found_at sets r)) (sym first)
-          (nothing_cover log (slice_index roots r) masks r (found_at sets r) (omega (arith, node_in))
-          (subst (λ (ms : List ℕ). IsCover log (slice_index roots r) (HasBit ms r) (found_at sets r)) (sym c.in-Some.ensures.kept) (c.loop-node.invariant.covers r h)));
+      below = omega (arith, some.below, l.invariant.below);
+      room = omega (arith, less, l.invariant.room);
+      clear = clear_taken _ masks _ c.in-Some.node some.kept c.take-mask.ensures.taken inside some.last;
+      sets = l.invariant.sets;
+      covers = λ r h. nothing_cover _ _ _ c.in-Some.node _ r _ (omega (arith, c.if-node-gt0.false)) (left r h);
     }
