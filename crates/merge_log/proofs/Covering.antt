@@ -53,7 +53,11 @@ either_bit a b k h = elim (number_case (bit_at a k) 1) [
 
 pub added_back : (masks : List ℕ) (n mask r m : ℕ) → n < length masks → HasBit (added masks n mask) r m → HasBit masks r m ⊎ ((m ≡ n) × (bit_at mask r ≡ 1))
 added_back masks n mask r m h k = elim (number_case m n) [
-  | inl e ↦ elim (either_bit (slice_index masks n) mask r (sym (added_bit masks n mask r m e h) ∙ k)) [ inl u ↦ inl (ap (λ (i : ℕ). bit_at (slice_index masks i) r) e ∙ u) | inr u ↦ inr (e, u) ]
+  | inl e ↦
+      elim (either_bit (slice_index masks n) mask r (sym (added_bit masks n mask r m e h) ∙ k)) [
+        | inl u ↦ inl (ap (λ (i : ℕ). bit_at (slice_index masks i) r) e ∙ u)
+        | inr u ↦ inr (e, u)
+      ]
   | inr e ↦ inl (ap (λ (i : ℕ). bit_at i r) (sym (get_or-set_other masks n m (bit_or (slice_index masks n) mask) 0 e)) ∙ k)
 ]
 
@@ -142,7 +146,8 @@ has_at log q m n e t = ap (λ (i : ℕ). has_leaf q (terms log i)) (sym e) ∙ t
 pub leaf_cover : (log : List Entry) (root : ℕ) (masks : List ℕ) (node mask r : ℕ) (found more : Terms) (given : Leaves) → terms log node ≡ leaves_terms given
     → more ≡ with_leaves (bit_at mask r) given found → IsCover log root (IsLeftToo masks node mask r) found → IsCover log root (HasBit masks r) more
 leaf_cover log root masks node mask r found more given under is =
-    cover_changed log root (IsLeftToo masks node mask r) (HasBit masks r) found more (back (number_case (bit_at mask r) 1)) (on (number_case (bit_at mask r) 1)) where
+    cover_changed log root (IsLeftToo masks node mask r) (HasBit masks r) found more (back (number_case (bit_at mask r) 1))
+    (on (number_case (bit_at mask r) 1)) where
       grown : bit_at mask r ≡ 1 → (q : Leaf) → has_leaf q more ≡ (has_leaf q found || has_leaf q (terms log node))
       grown e = leaves_added log node given found more under (is ∙ ap (λ (i : ℕ). with_leaves i given found) e)
 
@@ -151,17 +156,22 @@ leaf_cover log root masks node mask r found more given under is =
 
       back : (bit_at mask r ≡ 1) ⊎ (bit_at mask r ≢ 1) → (q : Leaf) → Reaches log (HasBit masks r) more q → Reaches log (IsLeftToo masks node mask r) found q
       back either q (inr p) = inr (p.0, inl p.1, p.2)
-      back (inl e) q (inl t) = elim (or_cases (has_leaf q found) (has_leaf q (terms log node)) (sym (grown e q) ∙ t)) [ inl u ↦ inl u | inr u ↦ inr (node, inr (refl, e), u) ]
+      back (inl e) q (inl t) =
+          elim (or_cases (has_leaf q found) (has_leaf q (terms log node)) (sym (grown e q) ∙ t)) [ inl u ↦ inl u | inr u ↦ inr (node, inr (refl, e), u) ]
       back (inr e) q (inl t) = inl (sym (ap (has_leaf q) (kept e)) ∙ t)
 
       on : (bit_at mask r ≡ 1) ⊎ (bit_at mask r ≢ 1) → (q : Leaf) → Reaches log (IsLeftToo masks node mask r) found q → Reaches log (HasBit masks r) more q
       on (inl e) q (inl t) = inl (grown e q ∙ or_left (has_leaf q found) (has_leaf q (terms log node)) t)
       on (inr e) q (inl t) = inl (ap (has_leaf q) (kept e) ∙ t)
-      on (inl e) q (inr p) = elim p.1 [ inl h ↦ inr (p.0, h, p.2) | inr h ↦ inl (grown e q ∙ or_right (has_leaf q found) (has_leaf q (terms log node)) (has_at log q p.0 node h.0 p.2)) ]
+      on (inl e) q (inr p) = elim p.1 [
+        | inl h ↦ inr (p.0, h, p.2)
+        | inr h ↦ inl (grown e q ∙ or_right (has_leaf q found) (has_leaf q (terms log node)) (has_at log q p.0 node h.0 p.2))
+      ]
       on (inr e) q (inr p) = elim p.1 [ inl h ↦ inr (p.0, h, p.2) | inr h ↦ absurd (e h.1) ]
 
 -- a node is left for its operands
-pub union_cover : (log : List Entry) (root : ℕ) (masks : List ℕ) (node mask r : ℕ) (found : Terms) (a b : ℕ) → entry_at log node ≡ Some (Union a b) → HasOperandsBefore node (Union a b) → node < length masks
+pub union_cover : (log : List Entry) (root : ℕ) (masks : List ℕ) (node mask r : ℕ) (found : Terms) (a b : ℕ) → entry_at log node ≡ Some (Union a b)
+    → HasOperandsBefore node (Union a b) → node < length masks
     → IsCover log root (IsLeftToo masks node mask r) found → IsCover log root (HasBit (added (added masks a mask) b mask) r) found
 union_cover log root masks node mask r found a b at before room =
     cover_changed log root (IsLeftToo masks node mask r) (HasBit (added (added masks a mask) b mask) r) found found back on where
@@ -207,7 +217,8 @@ taken_cover log root masks node r found h c = record {
 }
 
 -- the empty node has no leaf
-pub nothing_cover : (log : List Entry) (root : ℕ) (masks : List ℕ) (node mask r : ℕ) (found : Terms) → node ≡ 0 → IsCover log root (IsLeftToo masks node mask r) found → IsCover log root (HasBit masks r) found
+pub nothing_cover : (log : List Entry) (root : ℕ) (masks : List ℕ) (node mask r : ℕ) (found : Terms) → node ≡ 0
+    → IsCover log root (IsLeftToo masks node mask r) found → IsCover log root (HasBit masks r) found
 nothing_cover log root masks node mask r found none = cover_changed log root (IsLeftToo masks node mask r) (HasBit masks r) found found back on where
   back : (q : Leaf) → Reaches log (HasBit masks r) found q → Reaches log (IsLeftToo masks node mask r) found q
   back q (inl t) = inl t
@@ -215,7 +226,10 @@ nothing_cover log root masks node mask r found none = cover_changed log root (Is
 
   on : (q : Leaf) → Reaches log (IsLeftToo masks node mask r) found q → Reaches log (HasBit masks r) found q
   on q (inl t) = inl t
-  on q (inr p) = elim p.1 [ inl h ↦ inr (p.0, h, p.2) | inr h ↦ true-false (sym (has_at log q p.0 0 (h.0 ∙ none) p.2) ∙ ap (has_leaf q) (nothing_under_0 log) ∙ no_leaf q) ]
+  on q (inr p) = elim p.1 [
+    | inl h ↦ inr (p.0, h, p.2)
+    | inr h ↦ true-false (sym (has_at log q p.0 0 (h.0 ∙ none) p.2) ∙ ap (has_leaf q) (nothing_under_0 log) ∙ no_leaf q)
+  ]
 
 -- at first the root itself is left
 pub first_cover : (log : List Entry) (root : ℕ) (masks : List ℕ) (r : ℕ) (found : Terms) → found ≡ no_terms → ((m : ℕ) → HasBit masks r m → m ≡ root) → HasBit masks r root → IsCover log root (HasBit masks r) found
@@ -241,4 +255,5 @@ module _ (old masks taken : List ℕ) (node : ℕ) (kept : masks ≡ old) (is : 
   pub all_taken : (log : List Entry) (roots : List ℕ) (found : List FoundLeaves) (mask : ℕ) → mask ≡ slice_index masks node
       → ((r : ℕ) → r < length roots → IsCover log (slice_index roots r) (HasBit old r) (found_at found r))
       → (r : ℕ) → r < length roots → IsCover log (slice_index roots r) (IsLeftToo taken node mask r) (found_at found r)
-  all_taken log roots found mask at covers r h = rw (is, at) (taken_cover log (slice_index roots r) masks node r (found_at found r) inside (rw kept (covers r h)))
+  all_taken log roots found mask at covers r h =
+      rw (is, at) (taken_cover log (slice_index roots r) masks node r (found_at found r) inside (rw kept (covers r h)))

@@ -78,7 +78,8 @@ pub given_first : (Q : ℕ → Terms → Terms → Type 0) (fs : List FoundLeave
 given_first Q fs = record { sets = refl; given = λ r h. absurd (omega (arith, h)); rest = λ r h. refl }
 
 module _ (Q : ℕ → Terms → Terms → Type 0) (old now : List FoundLeaves) (root : ℕ) (a : AreGiven Q old now root) where
-  given_step : (new : List FoundLeaves) → length new ≡ length now → ((r : ℕ) → root ≢ r → found_at new r ≡ found_at now r) → Q root (found_at now root) (found_at new root) → AreGiven Q old new (root + 1)
+  given_step : (new : List FoundLeaves) → length new ≡ length now → ((r : ℕ) → root ≢ r → found_at new r ≡ found_at now r)
+      → Q root (found_at now root) (found_at new root) → AreGiven Q old new (root + 1)
   given_step new sets others is = record {
     sets = sets ∙ a.sets;
     given = λ r l. elim (number_case root r) [
@@ -89,7 +90,8 @@ module _ (Q : ℕ → Terms → Terms → Type 0) (old now : List FoundLeaves) (
   }
 
   pub given_next : (f : FoundLeaves) → root < length now → Q root (found_at now root) (terms_of f) → AreGiven Q old (slice_set now root f) (root + 1)
-  given_next f h is = given_step (slice_set now root f) (length-set now root f) (set_other now root f) (subst (Q root (found_at now root)) (sym (set_same now root f h)) is)
+  given_next f h is =
+      given_step (slice_set now root f) (length-set now root f) (set_other now root f) (subst (Q root (found_at now root)) (sym (set_same now root f h)) is)
 
   pub given_none : Q root (found_at now root) (found_at now root) → AreGiven Q old now (root + 1)
   given_none is = given_step now refl (λ r e. refl) is
@@ -98,7 +100,8 @@ module _ (Q : ℕ → Terms → Terms → Type 0) (old now : List FoundLeaves) (
   pub given_all : length now ≤ root → ((r : ℕ) → Q r no_terms no_terms) → (r : ℕ) → Q r (found_at old r) (found_at now r)
   given_all h none r = elim (cases_lt r root) [
     | inl l ↦ a.given r l
-    | inr g ↦ subst (λ (t : Terms). Q r t (found_at now r)) (a.rest r g) (subst (λ (t : Terms). Q r t t) (sym (found_beyond now r (omega (arith, h, g)))) (none r))
+    | inr g ↦
+        subst (λ (t : Terms). Q r t (found_at now r)) (a.rest r g) (subst (λ (t : Terms). Q r t t) (sym (found_beyond now r (omega (arith, h, g)))) (none r))
   ]
 
 -- ---- a bit

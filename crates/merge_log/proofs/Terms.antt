@@ -6,6 +6,7 @@ use Rattle.std.specs.Cmp.{IsTotalOrder}
 use Rattle.std.specs.FinMap.{IsAntisymmetric}
 use Rattle.std.specs.declared.cmp.Ordering.{Ordering}
 use Rattle.std.proofs.Math.Bool.{or_self_left}
+use Rattle.std.proofs.lemmas.Bool.{eq-eqb}
 use Rattle.lists.specs.Sets.{union, Ascends, has}
 use Rattle.lists.proofs.Algebra.{Ascends-union, same_list, union_assoc, union_comm, union-nil, has-union}
 use Rattle.flow_model.proofs.Orders.{loc_total, loc_same, source_total, source_same}
@@ -20,16 +21,12 @@ use Rattle.merge_log.specs.Log.{Terms, AreSets, no_terms, run_term, joined, entr
 -- ---- one more node
 
 at_other : (before : ℕ → Terms) (n : ℕ) (e : Entry) (i : ℕ) → i < n → with_node before n e i ≡ before i
-at_other before n e i h = by (i == n) refl where
-  by : (b : Bool) → (i == n) ≡ b → (if b then entry_terms before e else before i) ≡ before i
-  by true p = absurd (grind (arith, common_steps))
-  by false p = refl
+at_other before n e i h =
+    let other : (i == n) ≡ false = grind (arith, common_steps, h) in
+    ap (λ (b : Bool). if b then entry_terms before e else before i) other
 
 at_itself : (before : ℕ → Terms) (n : ℕ) (e : Entry) (i : ℕ) → i ≡ n → with_node before n e i ≡ entry_terms before e
-at_itself before n e i h = by (i == n) refl where
-  by : (b : Bool) → (i == n) ≡ b → (if b then entry_terms before e else before i) ≡ entry_terms before e
-  by true p = refl
-  by false p = absurd (grind (arith, common_steps))
+at_itself before n e i h = ap (λ (b : Bool). if b then entry_terms before e else before i) (eq-eqb i n h)
 
 below : (before : ℕ → Terms) (n : ℕ) (es : List Entry) (i : ℕ) → i < n → terms_from before n es i ≡ before i
 below before n [] i h = refl
@@ -146,32 +143,24 @@ joined_assoc a b c h k =
     ap₂ make (union_assoc source_total source_same a.sources b.sources c.sources h.sources k.sources)
     (union_assoc loc_total loc_same a.starts b.starts c.starts h.starts k.starts)
 
-module _ {K : Type 0} {R : K → K → Ordering} (o : IsTotalOrder R) (same : IsAntisymmetric R) where
-  or_itself : (b : Bool) → (b || b) ≡ b
-  or_itself true = refl
-  or_itself false = refl
-
-  union_itself : (xs : List K) → Ascends R xs → union R xs xs ≡ xs
-  union_itself xs a = same_list o same (union R xs xs) xs (Ascends-union o xs xs a) a (λ q. has-union o xs xs q ∙ or_itself (has R q xs))
-
-  union_again : (xs ys : List K) → Ascends R ys → union R xs (union R xs ys) ≡ union R xs ys
-  union_again xs ys a = same_list o same _ _ (Ascends-union o xs (union R xs ys) (Ascends-union o xs ys a)) (Ascends-union o xs ys a)
-      (λ q. has-union o xs (union R xs ys) q ∙ ap (λ (b : Bool). has R q xs || b) (has-union o xs ys q) ∙ or_self_left (has R q xs) (has R q ys) ∙ sym (has-union o xs ys q))
+union_again : {K : Type 0} {R : K → K → Ordering} → IsTotalOrder R → IsAntisymmetric R → (xs ys : List K) → Ascends R ys
+    → union R xs (union R xs ys) ≡ union R xs ys
+union_again {K = K} {R = R} o same xs ys a = same_list o same _ _ (Ascends-union o xs (union R xs ys) (Ascends-union o xs ys a)) (Ascends-union o xs ys a)
+    (λ q. has-union o xs (union R xs ys) q ∙ ap (λ (b : Bool). has R q xs || b) (has-union o xs ys q) ∙ or_self_left (has R q xs) (has R q ys) ∙ sym
+    (has-union o xs ys q))
 
 pub joined_again : (a b : Terms) → AreSets b → joined a (joined a b) ≡ joined a b
 joined_again a b h =
     let make : List SourceByte → List Loc → Terms = λ s l. record { sources = s; starts = l } in
     ap₂ make (union_again source_total source_same a.sources b.sources h.sources) (union_again loc_total loc_same a.starts b.starts h.starts)
 
-pub joined_itself : (a : Terms) → AreSets a → joined a a ≡ a
-joined_itself a h =
-    let make : List SourceByte → List Loc → Terms = λ s l. record { sources = s; starts = l } in
-    ap₂ make (union_itself source_total source_same a.sources h.sources) (union_itself loc_total loc_same a.starts h.starts)
-
 pub joined_nothing : (a : Terms) → AreSets a → joined a no_terms ≡ a
 joined_nothing a h =
     let make : List SourceByte → List Loc → Terms = λ s l. record { sources = s; starts = l } in
     ap₂ make (union-nil source_total a.sources h.sources) (union-nil loc_total a.starts h.starts)
+
+pub joined_itself : (a : Terms) → AreSets a → joined a a ≡ a
+joined_itself a h = ap (joined a) (sym (joined_nothing a h)) ∙ joined_again a no_terms (record { sources = tt; starts = tt }) ∙ joined_nothing a h
 
 pub nothing_under_0 : (log : List Entry) → terms log 0 ≡ no_terms
 nothing_under_0 log = below (λ i. no_terms) 1 log 0 (omega arith)

@@ -200,13 +200,15 @@ leaf_done log marks round n e at leaf = λ q h. ap (has_leaf q) (terms_step log 
 
 -- the leaves of a node that is no union are found
 pub leaf_step : (log : List Entry) (root round : ℕ) (marks stack rest : List ℕ) (next : ℕ) (found more : Terms) (e : Entry) (u : Leaves)
-    → stack ≡ rest ++ next ∷ [] → entry_at log next ≡ Some e → IsLeaf e → terms log next ≡ leaves_terms u → more ≡ and_leaves u found → IsWalk log root round marks stack found none_open
+    → stack ≡ rest ++ next ∷ [] → entry_at log next ≡ Some e → IsLeaf e → terms log next ≡ leaves_terms u → more ≡ and_leaves u found
+    → IsWalk log root round marks stack found none_open
     → IsWalk log root round marks rest more none_open
 leaf_step log root round marks stack rest next found more e u is at leaf under grown w =
     let p = popped log root round marks stack rest next found is w in
     let has = leaves_added log next u found more under grown in
     closed log root round marks rest more next e at
-    (done_found marks round (terms log next) more e (λ q h. has q ∙ or_right (has_leaf q found) (has_leaf q (terms log next)) h) (leaf_done log marks round next e at leaf))
+    (done_found marks round (terms log next) more e (λ q h. has q ∙ or_right (has_leaf q found) (has_leaf q (terms log next)) h)
+    (leaf_done log marks round next e at leaf))
     (found_more log root round marks rest found more (λ m. m ≡ next)
     (λ q h. has q ∙ or_left (has_leaf q found) (has_leaf q (terms log next)) h)
     (λ q h. elim (or_cases (has_leaf q found) (has_leaf q (terms log next)) (sym (has q) ∙ h)) [ inl k ↦ w.within q k | inr k ↦ p.0.leaves q k ])

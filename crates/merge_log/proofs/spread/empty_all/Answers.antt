@@ -11,4 +11,5 @@ loop-root-preserved c =
     given_next _ _ _ _ c.loop-root.invariant c.clear.new.self within (empty_terms c.clear.new.self c.clear.ensures.runs c.clear.ensures.starts)
 
 pub returns-clause-empty : goal.returns-clause-empty
-returns-clause-empty c = given_all _ _ _ _ c.loop-root.invariant (omega (arith, c.loop-root-test.false, c.len-root-end.ensures, c.loop-root.invariant.sets)) (λ r. refl)
+returns-clause-empty c =
+    given_all _ _ _ _ c.loop-root.invariant (omega (arith, c.loop-root-test.false, c.len-root-end.ensures, c.loop-root.invariant.sets)) (λ r. refl)

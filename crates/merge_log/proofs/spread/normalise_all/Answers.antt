@@ -13,7 +13,8 @@ loop-root-preserved c =
     let within : l.root < length l.found.items = omega (arith, c.loop-root-test.true, c.len-root-end.ensures, l.invariant.sets) in
     given_next _ _ _ _ l.invariant c.normalise.new.self within
     (record {
-      members = λ q. c.in_ok-normalise.ensures.members q ∙ ap (has_leaf q) (found_lent l.found.items l.root c.index_mut.result.now within c.index_mut.ensures.value);
+      members =
+          λ q. c.in_ok-normalise.ensures.members q ∙ ap (has_leaf q) (found_lent l.found.items l.root c.index_mut.result.now within c.index_mut.ensures.value);
       ascending = c.in_ok-normalise.ensures.ascending;
     })
 

@@ -27,4 +27,5 @@ returns-in-Union-clause-covers c =
     let masks = c.args.masks.now.masks.items in
     let both : c.add-in-Union.new.self.masks.items ≡ added (added masks c.in-Union.left c.args.mask) c.in-Union.right c.args.mask = c.add-in-Union.ensures ∙ ap (λ (ms : List ℕ). added ms c.in-Union.right c.args.mask) c.add.ensures in
     λ r root h cover. subst (λ (ms : List ℕ). IsCover c.args.log.now root (HasBit ms r) (found_at c.args.found.now.items r)) (sym both)
-    (union_cover c.args.log.now root masks c.args.node c.args.mask r _ c.in-Union.left c.in-Union.right c.in-Union.ensures.at c.in-Union.ensures.before (omega (arith, c.requires.room, c.requires.stands)) cover)
+    (union_cover c.args.log.now root masks c.args.node c.args.mask r _ c.in-Union.left c.in-Union.right c.in-Union.ensures.at c.in-Union.ensures.before
+    (omega (arith, c.requires.room, c.requires.stands)) cover)

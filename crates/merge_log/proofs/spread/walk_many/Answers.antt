@@ -18,7 +18,8 @@ loop-node-init c =
 pub spread-requires-clause-clear : goal.spread-requires-clause-clear
 spread-requires-clause-clear c =
     let masks = c.last_below.new.self.masks.items in
-    let inside : c.in-Some.node < length masks = omega (arith, ap length c.in-Some.ensures.kept, c.in-Some.ensures.below, c.loop-node.invariant.below, c.loop-node.invariant.room) in
+    let inside : c.in-Some.node < length masks =
+    omega (arith, ap length c.in-Some.ensures.kept, c.in-Some.ensures.below, c.loop-node.invariant.below, c.loop-node.invariant.room) in
     clear_taken _ masks _ c.in-Some.node c.in-Some.ensures.kept c.take-mask.ensures.taken inside c.in-Some.ensures.last
 
 pub spread-requires-clause-few : goal.spread-requires-clause-few
@@ -37,7 +38,9 @@ loop-node-preserved-in-Continue-1 c =
     let masks = c.last_below.new.self.masks.items in
     let inside : c.in-Some.node < length masks = omega (arith, ap length some.kept, some.below, l.invariant.below, l.invariant.room) in
     let less = taken_room _ masks _ c.in-Some.node some.kept c.take-mask.ensures.taken inside in
-    let left = all_taken _ masks _ c.in-Some.node some.kept c.take-mask.ensures.taken inside c.args.log.now c.args.roots.now l.found.items _ c.take-mask.ensures.mask l.invariant.covers in
+    let left =
+    all_taken _ masks _ c.in-Some.node some.kept c.take-mask.ensures.taken inside c.args.log.now c.args.roots.now l.found.items _ c.take-mask.ensures.mask
+    l.invariant.covers in
     record {
       below = omega (arith, some.below, l.invariant.below);
       room = omega (arith, c.in_ok-spread.ensures.room, less, l.invariant.room);
@@ -53,7 +56,9 @@ loop-node-preserved c =
     let masks = c.last_below.new.self.masks.items in
     let inside : c.in-Some.node < length masks = omega (arith, ap length some.kept, some.below, l.invariant.below, l.invariant.room) in
     let less = taken_room _ masks _ c.in-Some.node some.kept c.take-mask.ensures.taken inside in
-    let left = all_taken _ masks _ c.in-Some.node some.kept c.take-mask.ensures.taken inside c.args.log.now c.args.roots.now l.found.items _ c.take-mask.ensures.mask l.invariant.covers in
+    let left =
+    all_taken _ masks _ c.in-Some.node some.kept c.take-mask.ensures.taken inside c.args.log.now c.args.roots.now l.found.items _ c.take-mask.ensures.mask
+    l.invariant.covers in
     record {
       below = omega (arith, some.below, l.invariant.below);
       room = omega (arith, less, l.invariant.room);

@@ -23,7 +23,9 @@ loop-next-preserved-in-Continue-branch-2 c = record {
 pub loop-next-preserved-in-Continue-branch-3 : goal.loop-next-preserved-in-Continue-branch-3
 loop-next-preserved-in-Continue-branch-3 c = record {
   room = c.loop-next.invariant.room;
-  walk = leaf_step _ _ _ _ _ _ _ _ _ _ (Run (record { channel = c.in-Run.channel; first = c.in-Run.first; last = c.in-Run.last })) c.in-Some.ensures.items c.in-Run.ensures.at tt
+  walk =
+      leaf_step _ _ _ _ _ _ _ _ _ _ (Run
+      (record { channel = c.in-Run.channel; first = c.in-Run.first; last = c.in-Run.last })) c.in-Some.ensures.items c.in-Run.ensures.at tt
       (terms_step c.args.log.now c.in-Some.next _ c.in-Run.ensures.at tt) c.in_ok-add-in-Run.ensures c.loop-next.invariant.walk;
 }
 
