@@ -9,7 +9,8 @@ use Rattle.stream_model.proofs.Moving.{IsSent, IsGot, IsKept, part_kept, NodesFi
 
 module _ (capacity : ℕ) where
   -- what is sent where there is room still fits
-  sent_fits : (sent new got : List Message) → IsSent (has_room_for capacity sent got) sent new → length sent ≤ length got + capacity → length new ≤ length got + capacity
+  sent_fits : (sent new got : List Message) → IsSent (has_room_for capacity sent got) sent new → length sent ≤ length got + capacity
+      → length new ≤ length got + capacity
   sent_fits sent new got (inl e) h = let same = ap length e in omega arith
   sent_fits sent new got (inr s) h =
       let one = ap length s.2 in
@@ -17,9 +18,9 @@ module _ (capacity : ℕ) where
       let room : has_room_for capacity sent got ≡ true = s.1 in
       grind (arith, common_steps, room, one, more)
 
-  got_more : (next : Option Message) (got new : List Message) → IsGot next got new → length got ≤ length new
-  got_more next got new (inl e) = let same = ap length e in omega arith
-  got_more next got new (inr g) = let one = ap length g.2 in omega (arith, length-append got (g.0 ∷ []))
+  fewer : (next : Option Message) (sent got new : List Message) → IsGot next got new → length sent ≤ length got + capacity → length sent ≤ length new + capacity
+  fewer next sent got new (inl e) h = let same = ap length e in omega arith
+  fewer next sent got new (inr g) h = let one = ap length g.2 in omega (arith, length-append got (g.0 ∷ []))
 
   delivered_kept : IsKept capacity (IsDelivered capacity)
   delivered_kept =
@@ -27,7 +28,7 @@ module _ (capacity : ℕ) where
       record {
         nothing = record { in_order = part.nothing; few = omega arith };
         sent = λ sent new got s h. record { in_order = part.sent sent new got s h.in_order; few = sent_fits sent new got s h.few };
-        got = λ sent got new g h. record { in_order = part.got sent got new g h.in_order; few = let more = got_more _ got new g in let few = h.few in omega arith };
+        got = λ sent got new g h. record { in_order = part.got sent got new g h.in_order; few = fewer _ sent got new g h.few };
       }
 
   delivered : (previous : Option Phase) (ns : List NodeState) → NodesFit (IsDelivered capacity) previous ns → AreDelivered capacity ns

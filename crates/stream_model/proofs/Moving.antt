@@ -194,17 +194,20 @@ pub record IsKept (capacity : ℕ) (Fits : List Message → List Message → Typ
   pub got : (sent got new : List Message) → IsGot (next_item got sent) got new → Fits sent got → Fits sent new
 
 pub part_kept : (capacity : ℕ) → IsKept capacity IsPart
-part_kept capacity = record { nothing = ([], refl); sent = λ sent new got s p. sent_longer _ got sent new s p; got = λ sent got new g p. got_fits got new sent p g }
+part_kept capacity =
+    record { nothing = ([], refl); sent = λ sent new got s p. sent_longer _ got sent new s p; got = λ sent got new g p. got_fits got new sent p g }
 
 module _ (capacity : ℕ) (Fits : List Message → List Message → Type 0) (kept : IsKept capacity Fits) where
   begun_keeps : (refused : Bool) (previous next : Option Phase) (e : Summary) → PreviousFits Fits previous Fresh → NextFits Fits Fresh next
       → Kept Fits previous next (Asks (begun refused (is_none next) e))
   begun_keeps refused previous next e x y = by refused where
-    early : (previous : Option Phase) (whole : Bool) → PreviousFits Fits previous Fresh → PreviousFits Fits previous (Asks (record (asking_start (is_none next) e) { is_whole = whole }))
+    early : (previous : Option Phase) (whole : Bool) → PreviousFits Fits previous Fresh
+        → PreviousFits Fits previous (Asks (record (asking_start (is_none next) e) { is_whole = whole }))
     early None whole x = tt
     early (Some p) whole x = record { asks = x.asks; answers = x.answers }
 
-    late : (next : Option Phase) (whole : Bool) → NextFits Fits Fresh next → NextFits Fits (Asks (record (asking_start (is_none next) e) { is_whole = whole })) next
+    late : (next : Option Phase) (whole : Bool) → NextFits Fits Fresh next
+        → NextFits Fits (Asks (record (asking_start (is_none next) e) { is_whole = whole })) next
     late None whole y = refl
     late (Some q) whole y = record { asks = y.asks; answers = y.answers }
 
@@ -213,7 +216,8 @@ module _ (capacity : ℕ) (Fits : List Message → List Message → Type 0) (kep
     by false = record { phase = (refl, refl); early = early previous true x; late = late next true y }
 
   module _ (refused : Bool) where
-    asks_keep : (previous next : Option Phase) (a b : Asking) → AskMoved (asking_links capacity refused previous next a) a b → PreviousFits Fits previous (Asks a) → NextFits Fits (Asks a) next
+    asks_keep : (previous next : Option Phase) (a b : Asking) → AskMoved (asking_links capacity refused previous next a) a b
+        → PreviousFits Fits previous (Asks a) → NextFits Fits (Asks a) next
         → (over : Bool) → b.is_over ≡ over → Kept Fits previous next (settled_by over (is_none previous) b)
     asks_keep previous next a b s x y over o = record { phase = phase over o; early = early previous s.sent x over; late = late next s.got y over } where
       phase : (over : Bool) → b.is_over ≡ over → PhaseHolds (settled_by over (is_none previous) b)
@@ -237,15 +241,18 @@ module _ (capacity : ℕ) (Fits : List Message → List Message → Type 0) (kep
     answers_keep : (previous next : Option Phase) (a : Asking) (f g : Answering) → AnswerMoved (answering_links capacity refused previous next f) f g
         → PhaseHolds (Answers a f) → PreviousFits Fits previous (Answers a f) → NextFits Fits (Answers a f) next → Kept Fits previous next (Answers a g)
     answers_keep previous next a f g s h x y = record { phase = (h.0, h.1, s.fits); early = early previous s.got x; late = late next s.sent y } where
-      early : (previous : Option Phase) → IsGot (answering_links capacity refused previous next f).item f.got g.got → PreviousFits Fits previous (Answers a f) → PreviousFits Fits previous (Answers a g)
+      early : (previous : Option Phase) → IsGot (answering_links capacity refused previous next f).item f.got g.got → PreviousFits Fits previous (Answers a f)
+          → PreviousFits Fits previous (Answers a g)
       early None t x = ended_got None f.got g.got t x
       early (Some p) t x = record { asks = x.asks; answers = kept.got (answers_sent_in p) f.got g.got t x.answers }
 
-      late : (next : Option Phase) → IsSent (answering_links capacity refused previous next f).has_room f.sent g.sent → NextFits Fits (Answers a f) next → NextFits Fits (Answers a g) next
+      late : (next : Option Phase) → IsSent (answering_links capacity refused previous next f).has_room f.sent g.sent → NextFits Fits (Answers a f) next
+          → NextFits Fits (Answers a g) next
       late None t y = tt
       late (Some q) t y = record { asks = y.asks; answers = kept.sent f.sent g.sent (answers_got_in q) t y.answers }
 
-    node_keeps : (previous next : Option Phase) (e : Summary) (p : Phase) → PhaseHolds p → PreviousFits Fits previous p → NextFits Fits p next → Kept Fits previous next (node_event capacity refused previous next e p)
+    node_keeps : (previous next : Option Phase) (e : Summary) (p : Phase) → PhaseHolds p → PreviousFits Fits previous p → NextFits Fits p next
+        → Kept Fits previous next (node_event capacity refused previous next e p)
     node_keeps previous next e Fresh h x y = begun_keeps refused previous next e x y
     node_keeps previous next e (Asks a) h x y =
         let links = asking_links capacity refused previous next a in
@@ -262,7 +269,8 @@ module _ (capacity : ℕ) (Fits : List Message → List Message → Type 0) (kep
     with_new p q [] h l = l
     with_new p q (n ∷ ns) h l = (h.0, l, h.2)
 
-    nodes_keep : (k : ℕ) (previous : Option Phase) (ns : List NodeState) → NodesFit Fits previous ns → NodesFit Fits previous (event_at capacity refused k previous ns)
+    nodes_keep : (k : ℕ) (previous : Option Phase) (ns : List NodeState) → NodesFit Fits previous ns
+        → NodesFit Fits previous (event_at capacity refused k previous ns)
     nodes_keep k previous [] h = h
     nodes_keep zero previous (n ∷ ns) h =
         let now = node_keeps previous (phase_of_first ns) n.summary n.phase h.0 h.1 (next_of n.phase ns h.2) in
