@@ -1,23 +1,21 @@
 -- The answer that stands at the place of what was asked.
-use Rattle.std.proofs.Common.{◌≡◌, ℕ, zero, suc, List, [], ◌∷◌, get_or, slice_get, Some, refl, ap, sym, subst, Bool, true, false, ◌||◌, cond}
+use Rattle.std.proofs.Common.{◌≡◌, ℕ, zero, suc, List, [], ◌∷◌, get_or, slice_get, Some, refl, ap, sym, ◌∙◌, subst, Bool, true, false, ◌||◌, cond}
 use Rattle.std.specs.List.{AllByRecursion, IsDistinct, All}
 use Rattle.std.specs.Ordering.{eq_by_cmp}
 use Rattle.std.proofs.lemmas.Map.Keys.{IsDistinct-head, IsDistinct-tail}
-use Rattle.std.proofs.lemmas.List.Elements.{recursion_from_All}
+use Rattle.std.proofs.lemmas.Option.{slice_get_within, get_or_from_slice_get}
+use Rattle.std.proofs.lemmas.List.Elements.{recursion_from_All, All-from_recursion}
 use Rattle.std.proofs.lemmas.Cmp.{eq_by_cmp_equiv}
 use Rattle.flow_model.specs.declared.Loc.{Loc}
 use Rattle.flow_model.specs.declared.SourceByte.{SourceByte}
 use Rattle.flow_model.specs.Orders.{loc_cmp, source_cmp}
-use Rattle.flow_model.proofs.Orders.{loc_same, loc_total}
+use Rattle.flow_model.proofs.Orders.{loc_total}
 use Rattle.lists.specs.Sets.{Ascends, has}
-use Rattle.lists.proofs.Algebra.{tied_by}
 use Rattle.epoch_model.specs.Join.{answer_to}
 use Rattle.epoch_model.proofs.Adding.{Ascends-answer}
 
-pub all_at : (P : Loc → Type 0) (ls : List Loc) (i : ℕ) (l : Loc) → AllByRecursion P ls → slice_get ls i ≡ Some l → P l
-all_at P [] i l a e = cc
-all_at P (m ∷ ms) zero l a e = let same : m ≡ l = cc in subst P same a.0
-all_at P (m ∷ ms) (suc i) l a e = all_at P ms i l a.1 e
+all_at : (P : Loc → Type 0) (ls : List Loc) (i : ℕ) (l : Loc) → AllByRecursion P ls → slice_get ls i ≡ Some l → P l
+all_at P ls i l a e = subst P (get_or_from_slice_get ls i l l e) (All-from_recursion P ls a i l (slice_get_within ls i l e))
 
 -- where it isn't asked there is none
 pub answer_none : (asked : List Loc) (answers : List (List SourceByte)) (l : Loc) → has loc_cmp l asked ≡ false → answer_to asked answers l ≡ []
@@ -37,15 +35,9 @@ answer_at (m ∷ ms) (a ∷ rest) zero l d e =
     let same : m ≡ l = cc in
     ap (λ (b : Bool). cond b a (answer_to ms rest l)) (subst (λ (k : Loc). eq_by_cmp loc_cmp l k ≡ true) (sym same) ((eq_by_cmp_equiv loc_total).refl l))
 answer_at (m ∷ ms) (a ∷ rest) (suc i) l d e =
-    by (all_at (λ k. eq_by_cmp loc_cmp m k ≡ false) ms i l (IsDistinct-head (eq_by_cmp loc_cmp) m ms d) e) (eq_by_cmp loc_cmp l m) refl
-    (answer_at ms rest i l (IsDistinct-tail (eq_by_cmp loc_cmp) m ms d) e) where
-      by : eq_by_cmp loc_cmp m l ≡ false → (b : Bool) → eq_by_cmp loc_cmp l m ≡ b → answer_to ms rest l ≡ get_or rest i [] → cond b a (answer_to ms rest l) ≡ get_or rest i []
-      by apart true same ih =
-          let alike : l ≡ m = loc_same l m (tied_by (loc_cmp l m) same) in
-          let clash : eq_by_cmp loc_cmp m m ≡ false = subst (λ (k : Loc). eq_by_cmp loc_cmp m k ≡ false) alike apart in
-          let itself = (eq_by_cmp_equiv loc_total).refl m in
-          cc
-      by apart false other ih = ih
+    ap (λ (b : Bool). cond b a (answer_to ms rest l))
+    ((eq_by_cmp_equiv loc_total).symm l m ∙ all_at (λ k. eq_by_cmp loc_cmp m k ≡ false) ms i l (IsDistinct-head (eq_by_cmp loc_cmp) m ms d) e)
+    ∙ answer_at ms rest i l (IsDistinct-tail (eq_by_cmp loc_cmp) m ms d) e
 
 -- where all answers ascend, each does
 pub ascends_answer : (asked : List Loc) (answers : List (List SourceByte)) → All (Ascends source_cmp) answers → (l : Loc) → Ascends source_cmp (answer_to asked answers l)

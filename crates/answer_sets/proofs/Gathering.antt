@@ -11,19 +11,14 @@ use Rattle.lists.proofs.Algebra.{Ascends-union, has-union, union-within}
 use Rattle.answer_sets.proofs.Members.{compared, order_is, members_by}
 
 or_swapped : (a b c : Bool) → ((a || b) || c) ≡ ((a || c) || b)
-or_swapped true b c = refl
 or_swapped false true true = refl
-or_swapped false true false = refl
 or_swapped false false true = refl
-or_swapped false false false = refl
+or_swapped a b c = refl
 
 or_turned : (a b c : Bool) → ((a || b) || c) ≡ ((b || c) || a)
-or_turned true true c = refl
 or_turned true false true = refl
-or_turned true false false = refl
-or_turned false true c = refl
 or_turned false false true = refl
-or_turned false false false = refl
+or_turned a b c = refl
 
 pub has-both : (xs ys : List SourceByte) (b : SourceByte) → has source_cmp b (xs ++ ys) ≡ (has source_cmp b xs || has source_cmp b ys)
 has-both xs ys b = list_any-append (eq_by_cmp source_cmp b) xs ys
