@@ -86,6 +86,7 @@ impl MergeLog {
 
     /// The empty node.
     #[inline(always)]
+    #[tactic(auto, using(crate::proofs::Terms::nothing_under_0))]
     pub fn nothing(&self) -> Node
         ensures number { result ≡ 0 }
         ensures terms { terms self.now result ≡ no_terms }

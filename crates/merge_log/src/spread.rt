@@ -108,6 +108,7 @@ fn spread(
 
 /// Where the roots of a mask begin, and where they end.
 #[inline(always)]
+#[tactic(auto, using(crate::proofs::Bounds::bits_from, crate::proofs::Bounds::bits_below))]
 fn bounds(mask: u64) -> (usize, usize)
     ensures below { (r : ℕ) → r < result.0 → bit_at mask r ≡ 0 }
     ensures above { (r : ℕ) → result.1 ≤ r → bit_at mask r ≡ 0 }

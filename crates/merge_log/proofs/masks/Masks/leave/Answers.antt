@@ -1,4 +1,4 @@
-use Rattle.std.proofs.Common.{refl, arith}
+use Rattle.std.proofs.Common.{arith}
 use Rattle.merge_log.proofs.Blocks.{block_in, block_left}
 use Rattle.merge_log.proofs.masks.Masks.leave.Goals as goal
 
@@ -11,9 +11,3 @@ pub invariant_of-self : goal.invariant_of-self
 invariant_of-self c =
     let s = c.args.self.now in
     record { marked = block_left s.masks.items s.blocks.items c.args.past s.marked c.if-past-eq0.true c.requires.clear; below = s.below }
-
-pub returns-then-past-eq0 : goal.returns-then-past-eq0
-returns-then-past-eq0 c = refl
-
-pub returns-else-past-eq0 : goal.returns-else-past-eq0
-returns-else-past-eq0 c = refl
