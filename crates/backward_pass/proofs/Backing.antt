@@ -18,7 +18,7 @@ use Rattle.pass_parts.specs.declared.pass_turn.PassTurn.TheVariants.{Moved, NotY
 use Rattle.pass_parts.specs.declared.requests.Request.{Request}
 use Rattle.pass_parts.specs.Ends.{with, got_by, unsent, sent_by}
 use Rattle.pass_parts.specs.Events.{IsEvent, IsAtRest}
-use Rattle.pass_parts.proofs.Events.{links_of, free, stuck, sent_same, still_none, refused, was_over}
+use Rattle.pass_parts.proofs.Events.{links_of, free, stuck, sent_same, still_none, moved, ended, refused, was_over}
 use Rattle.pass_parts.specs.Requests.{locations, IsCounted, AreCounted}
 use Rattle.backward_pass.specs.Backward.{BackView, knows, asking_of, state, IsFit, Keeps, IsSameBack, Walks, with_sink, IsRequested, with_request, Takes, backwards, Moves, Sends, IsQuiet}
 use Rattle.backward_pass.proofs.Counts.{kept_asked, asked_then, walked_then, counted_more}
@@ -45,23 +45,13 @@ broken_fits v w a = record { known = λ t. true-false (sym t ∙ w); silent = λ
 -- ---- the model's event, by cases
 
 module _ (first : Bool) (e : EpochSummary) (links : Links) (a : Asking) where
-  over_event : a.is_over ≡ true → asking_event first e links a ≡ a
-  over_event o = ap (λ (b : Bool). asking_by first e links a b a.is_whole) o
-
-  whole_event : a.is_over ≡ false → a.is_whole ≡ true → asking_event first e links a ≡ whole_asking first e links a (drop a.pushed a.asked) a.left (is_ended a.got)
-  whole_event o w = ap₂ (asking_by first e links a) o w
+  whole_event : (waiting : List Loc) (left : List SinkTerms) → a.is_over ≡ false → a.is_whole ≡ true → drop a.pushed a.asked ≡ waiting → a.left ≡ left
+      → asking_event first e links a ≡ whole_asking first e links a waiting left (is_ended a.got)
+  whole_event waiting left o w d l =
+      ap₂ (asking_by first e links a) o w ∙ ap₂ (λ (ls : List Loc) (ks : List SinkTerms). whole_asking first e links a ls ks (is_ended a.got)) d l
 
   broken_event : a.is_over ≡ false → a.is_whole ≡ false → asking_event first e links a ≡ broken_asking links a (is_ended a.got)
   broken_event o w = ap₂ (asking_by first e links a) o w
-
-  at_push : (l : Loc) (waiting : List Loc) → a.is_over ≡ false → a.is_whole ≡ true → drop a.pushed a.asked ≡ l ∷ waiting → asking_event first e links a ≡ push_ask links.has_room a l
-  at_push l waiting o w d = whole_event o w ∙ ap (λ (ls : List Loc). whole_asking first e links a ls a.left (is_ended a.got)) d
-
-  at_walk : (k : SinkTerms) (left : List SinkTerms) → a.is_over ≡ false → a.is_whole ≡ true → drop a.pushed a.asked ≡ [] → a.left ≡ k ∷ left → asking_event first e links a ≡ walk links.is_refused first a k left
-  at_walk k left o w d l = whole_event o w ∙ ap₂ (λ (ls : List Loc) (ks : List SinkTerms). whole_asking first e links a ls ks (is_ended a.got)) d l
-
-  quiet_event : a.is_over ≡ false → a.is_whole ≡ true → drop a.pushed a.asked ≡ [] → a.left ≡ [] → asking_event first e links a ≡ whole_asking first e links a [] [] (is_ended a.got)
-  quiet_event o w d l = whole_event o w ∙ ap₂ (λ (ls : List Loc) (ks : List SinkTerms). whole_asking first e links a ls ks (is_ended a.got)) d l
 
 abbrev pop_by : Bool → Bool → Bool → EpochSummary → Asking → Option Message → Asking
 pop_by true refused first e a next = pop_ask refused first e a next
@@ -70,13 +60,13 @@ pop_by false refused first e a next = drop_ask a next
 module _ (v : BackView) (links : Links) (got sent : List Message) (o : v.over ≡ false) (q : IsQuiet v) where
   at_pop : (b : Bool) → v.whole ≡ b → is_ended got ≡ false → asking_event v.first (knows v) links (asking_of v got sent) ≡ pop_by b links.is_refused v.first (knows v) (asking_of v got sent) links.item
   at_pop true w h =
-      quiet_event v.first (knows v) links (asking_of v got sent) o w (q w).0 (q w).1
+      whole_event v.first (knows v) links (asking_of v got sent) [] [] o w (q w).0 (q w).1
       ∙ ap (λ (b : Bool). whole_asking v.first (knows v) links (asking_of v got sent) [] [] b) h
   at_pop false w h = broken_event v.first (knows v) links (asking_of v got sent) o w ∙ ap (broken_asking links (asking_of v got sent)) h
 
   at_end : (b : Bool) → v.whole ≡ b → is_ended got ≡ true → asking_event v.first (knows v) links (asking_of v got sent) ≡ end_asks links.has_room (asking_of v got sent)
   at_end true w h =
-      quiet_event v.first (knows v) links (asking_of v got sent) o w (q w).0 (q w).1
+      whole_event v.first (knows v) links (asking_of v got sent) [] [] o w (q w).0 (q w).1
       ∙ ap (λ (b : Bool). whole_asking v.first (knows v) links (asking_of v got sent) [] [] b) h
   at_end false w h = broken_event v.first (knows v) links (asking_of v got sent) o w ∙ ap (broken_asking links (asking_of v got sent)) h
 
@@ -115,25 +105,20 @@ module _ (v : BackView) (got sent : Option (List Message)) (k : Keeps v got sent
       → ((got sent : List Message) → asking_of new (got ++ m ∷ []) sent ≡ pop_by v.whole refused v.first (knows v) (asking_of v got sent) (Some m))
       → ((got : List Message) → is_ended got ≡ false → Keeps v (Some got) sent → Keeps new (Some (got ++ m ∷ [])) sent)
       → IsEvent backwards v got sent new later sent Moved
-  taken_next refused new later m r e o same took keeps = record {
-    happens = record { links = links_of true (Some m) refused; could_move = (refl, refl); is = by got (sym k.heard ∙ r.ended) e };
-    keeps = kept got k (sym k.heard ∙ r.ended) e;
-    same = same;
-    over = tt;
-    running = o ∙ r.running;
-    not_yet = tt;
-  } where
-    by : (got : Option (List Message)) → is_ended (got_by got) ≡ false → later ≡ with m got
-        → state new later sent ≡ asking_event v.first (knows v) (links_of true (Some m) refused) (state v got sent)
-    by None h e = true-false h
-    by (Some got) h e =
-        ap (λ (g : Option (List Message)). state new g sent) e ∙ took got (sent_by new.over new.whole sent)
-        ∙ ap (λ (ms : List Message). pop_by v.whole refused v.first (knows v) (asking_of v got ms) (Some m)) (sent_same new.over v.over new.whole v.whole (o ∙ r.running) r.running sent)
-        ∙ sym (at_pop v (links_of true (Some m) refused) got (sent_by v.over v.whole sent) r.running r.idle v.whole refl h)
+  taken_next refused new later m r e o same took keeps =
+      moved backwards v got sent new later sent m refused (by got (sym k.heard ∙ r.ended) e) (kept got k (sym k.heard ∙ r.ended) e) same (o ∙ r.running) where
+        by : (got : Option (List Message)) → is_ended (got_by got) ≡ false → later ≡ with m got
+            → state new later sent ≡ asking_event v.first (knows v) (links_of true (Some m) refused) (state v got sent)
+        by None h e = true-false h
+        by (Some got) h e =
+            ap (λ (g : Option (List Message)). state new g sent) e ∙ took got (sent_by new.over new.whole sent)
+            ∙ ap (λ (ms : List Message). pop_by v.whole refused v.first (knows v) (asking_of v got ms) (Some m))
+            (sent_same new.over v.over new.whole v.whole (o ∙ r.running) r.running sent)
+            ∙ sym (at_pop v (links_of true (Some m) refused) got (sent_by v.over v.whole sent) r.running r.idle v.whole refl h)
 
-    kept : (got : Option (List Message)) → Keeps v got sent → is_ended (got_by got) ≡ false → later ≡ with m got → Keeps new later sent
-    kept None k h e = true-false h
-    kept (Some got) k h e = subst (λ g. Keeps new g sent) (sym e) (keeps got h k)
+        kept : (got : Option (List Message)) → Keeps v got sent → is_ended (got_by got) ≡ false → later ≡ with m got → Keeps new later sent
+        kept None k h e = true-false h
+        kept (Some got) k h e = subst (λ g. Keeps new g sent) (sym e) (keeps got h k)
 
   -- one for which nothing is asked, and that breaks nothing
   other_next : (heard : Bool) (later : Option (List Message)) (m : Message) → IsAtRest backwards IsQuiet false v → later ≡ with m got
@@ -235,78 +220,57 @@ module _ (v : BackView) (got sent : Option (List Message)) (k : Keeps v got sent
     w = m.walked
 
     at : (links : Links) → asking_event v.first (knows v) links (state v got sent) ≡ walk links.is_refused v.first (state v got sent) w.sink w.left
-    at links = at_walk v.first (knows v) links (state v got sent) w.sink w.left m.running w.whole m.sent w.next
+    at links = whole_event v.first (knows v) links (state v got sent) [] (w.sink ∷ w.left) m.running w.whole m.sent w.next
+
+    broken : List Message → Asking
+    broken ms = record (state v got sent) { asked = []; sent = ms; is_whole = false }
 
     by : (refused : Bool) → IsEvent backwards v got sent (with_sink refused v w.sink w.left) got sent Moved
-    by true = record {
-      happens = record {
-        links = free true;
-        could_move = (refl, refl);
-        is = ap (λ (ms : List Message). record (state v got sent) { asked = []; sent = ms; is_whole = false }) (sent_same v.over v.over false v.whole m.running m.running sent)
-            ∙ sym (at (free true));
-      };
-      keeps = record {
-        fits = broken_fits _ refl refl;
-        heard = k.heard;
-        alone = k.alone;
-        requested = λ t. true-false (sym t);
-        ends = λ t _. true-false (sym t);
-      };
-      same = record { summary = refl; first = refl; last = refl };
-      over = tt;
-      running = m.running;
-      not_yet = tt;
-    }
-    by false = record {
-      happens = record { links = free false; could_move = (refl, refl); is = sym (at (free false)) };
-      keeps = record {
-        fits = record {
-          known = k.fits.known;
-          silent = still_silent v.first v.asked _ _ k.fits.silent refl;
-          forgets = λ t. true-false (sym w.whole ∙ t);
-          walked = λ t other. walked_then v.first v.asked (knows v).sinks v.left w.left w.sink other w.next (k.fits.walked w.whole other);
-          counted = λ t other. counted_more v.asked _ (knows v) v.requests (kept_asked v.first v.asked _ _ other refl) (k.fits.counted w.whole other);
-        };
-        heard = k.heard;
-        alone = k.alone;
-        requested = k.requested;
-        ends = k.ends;
-      };
-      same = record { summary = refl; first = refl; last = refl };
-      over = tt;
-      running = m.running;
-      not_yet = tt;
-    }
+    by true =
+        moved backwards v got sent (with_sink true v w.sink w.left) got sent (End true) true
+        (ap broken (sent_same v.over v.over false v.whole m.running m.running sent) ∙ sym (at (free true)))
+        (record { fits = broken_fits _ refl refl; heard = k.heard; alone = k.alone; requested = λ t. true-false (sym t); ends = λ t _. true-false (sym t) })
+        (record { summary = refl; first = refl; last = refl }) m.running
+    by false =
+        moved backwards v got sent (with_sink false v w.sink w.left) got sent (End true) false (sym (at (free false)))
+        (record {
+          fits = record {
+            known = k.fits.known;
+            silent = still_silent v.first v.asked _ _ k.fits.silent refl;
+            forgets = λ t. true-false (sym w.whole ∙ t);
+            walked = λ t other. walked_then v.first v.asked (knows v).sinks v.left w.left w.sink other w.next (k.fits.walked w.whole other);
+            counted = λ t other. counted_more v.asked _ (knows v) v.requests (kept_asked v.first v.asked _ _ other refl) (k.fits.counted w.whole other);
+          };
+          heard = k.heard;
+          alone = k.alone;
+          requested = k.requested;
+          ends = k.ends;
+        })
+        (record { summary = refl; first = refl; last = refl }) m.running
 
   pub push_next : (new : BackView) (later : Option (List Message)) (m : Message) → Sends m v → later ≡ with m sent → new ≡ record v { pushed = v.pushed + 1 }
       → IsEvent backwards v got sent new got later Moved
   push_next new later m s e n =
       subst (λ new. IsEvent backwards v got sent new got later Moved) (sym n)
-      (record {
-        happens = record { links = free false; could_move = (refl, refl); is = by sent k.alone (e ∙ ap (λ m. with m sent) s.is) };
-        keeps = keeps_push v (v.pushed + 1) v.over got sent later m e k;
-        same = record { summary = refl; first = refl; last = refl };
-        over = tt;
-        running = s.running;
-        not_yet = tt;
-      })
+      (moved backwards v got sent (record v { pushed = v.pushed + 1 }) got later (End true) false (by sent k.alone (e ∙ ap (λ m. with m sent) s.is))
+      (keeps_push v (v.pushed + 1) v.over got sent later m e k) (record { summary = refl; first = refl; last = refl }) s.running)
     where
       by : (sent : Option (List Message)) → IfNone sent (v.first ≡ true) → later ≡ with (Ask s.loc) sent
           → state (record v { pushed = v.pushed + 1 }) got later ≡ asking_event v.first (knows v) (free false) (state v got sent)
       by None alone e = (let nothing : [] ≡ s.loc ∷ s.waiting = sym (ap (drop v.pushed) (k.fits.silent alone) ∙ none_left v.pushed) ∙ s.next in cc)
       by (Some sent) alone e =
           ap (state (record v { pushed = v.pushed + 1 }) got) e
-          ∙ sym (at_push v.first (knows v) (free false) (state v got (Some sent)) s.loc s.waiting s.running s.whole s.next)
+          ∙ sym (whole_event v.first (knows v) (free false) (state v got (Some sent)) (s.loc ∷ s.waiting) v.left s.running s.whole s.next refl)
 
   -- what is next is done by the pass as it is after the look
   module _ (seen : BackView) (is : seen ≡ v) where
     pub over_next : v.over ≡ true → IsEvent backwards v got sent seen got sent Over
-    over_next o = was_over backwards v seen got sent is k (itself v) o (over_event v.first (knows v) stuck (state v got sent) o)
+    over_next o = was_over backwards v seen got sent is k (itself v) o (ap (λ (b : Bool). asking_by v.first (knows v) stuck (state v got sent) b v.whole) o)
 
     pub full_next : (later : Option (List Message)) (m : Message) → Sends m v → later ≡ sent → IsEvent backwards v got sent seen got later NotYet
     full_next later m s e =
         refused backwards v seen got sent is k (itself v) got later s.running refl e
-        (at_push v.first (knows v) stuck (state v got sent) s.loc s.waiting s.running s.whole s.next)
+        (whole_event v.first (knows v) stuck (state v got sent) (s.loc ∷ s.waiting) v.left s.running s.whole s.next refl)
 
     pub empty_next : (later : Option (List Message)) → IsAtRest backwards IsQuiet false v → later ≡ got → IsEvent backwards v got sent seen later sent NotYet
     empty_next later r e =
@@ -331,14 +295,8 @@ module _ (v : BackView) (got sent : Option (List Message)) (k : Keeps v got sent
     end_next later r =
         subst (λ u. later ≡ with (End u.whole) sent → IsEvent backwards v got sent (record u { over = true }) got later Over) (sym is)
         (λ e.
-        record {
-          happens = record { links = free false; could_move = tt; is = by sent e };
-          keeps = keeps_push v v.pushed true got sent later (End v.whole) e k;
-          same = record { summary = refl; first = refl; last = refl };
-          over = refl;
-          running = tt;
-          not_yet = tt;
-        })
+        ended backwards v got sent (record v { over = true }) got later (End true) false (by sent e)
+        (keeps_push v v.pushed true got sent later (End v.whole) e k) (record { summary = refl; first = refl; last = refl }) refl)
       where
         at : (sent : List Message) → asking_event v.first (knows v) (free false) (asking_of v (got_by got) sent) ≡ end_asks true (asking_of v (got_by got) sent)
         at sent = at_end v (free false) (got_by got) sent r.running r.idle v.whole refl (sym k.heard ∙ r.ended)

@@ -5,35 +5,20 @@ use Rattle.lists.proofs.Tests.{true-false}
 use Rattle.flow_model.specs.declared.Message.{Message}
 use Rattle.epoch_model.specs.Summary.{Summary as EpochSummary}
 use Rattle.epoch_summary.specs.declared.summary.Summary.{Summary}
-use Rattle.stream_model.specs.Streams.{is_ended}
-use Rattle.stream_model.specs.Passes.{Asking, Links, asking_event, asking_after, asking_by, broken_asking, drop_ask, end_asks}
+use Rattle.stream_model.specs.Passes.{Asking, Links, asking_event, asking_after}
 use Rattle.stream_model.specs.PassLaws.{AsksSent}
 use Rattle.stream_model.specs.Schedules.{begun}
+use Rattle.stream_model.proofs.Moves.{whole_asking_before}
 use Rattle.stream_model.proofs.Passing.{asking_sends}
 use Rattle.pass_parts.specs.declared.pass_turn.PassTurn.{PassTurn}
 use Rattle.pass_parts.specs.Ends.{fresh_end}
 use Rattle.pass_parts.specs.Known.{known}
 use Rattle.backward_pass.specs.Backward.{BackView, knows, new_back, state, begins, IsSameBack, Happens, Reached, SendsFor}
 
-event_whole : (first : Bool) (e : EpochSummary) (links : Links) (a : Asking) → a.is_whole ≡ false → (asking_event first e links a).is_whole ≡ false
-event_whole first e links a w = by a.is_over where
-  ended : (b : Bool) → (broken_asking links a b).is_whole ≡ false
-  ended false = by links.item where
-    by : (next : Option Message) → (drop_ask a next).is_whole ≡ false
-    by None = w
-    by (Some m) = w
-  ended true = by links.has_room where
-    by : (room : Bool) → (end_asks room a).is_whole ≡ false
-    by true = w
-    by false = w
-
-  by : (over : Bool) → (asking_by first e links a over a.is_whole).is_whole ≡ false
-  by true = w
-  by false = ap (λ (b : Bool). (asking_by first e links a false b).is_whole) w ∙ ended (is_ended a.got)
-
-after_broken : (first : Bool) (e : EpochSummary) (schedule : List Links) (a : Asking) → a.is_whole ≡ false → (asking_after first e schedule a).is_whole ≡ false
-after_broken first e [] a w = w
-after_broken first e (links ∷ schedule) a w = after_broken first e schedule (asking_event first e links a) (event_whole first e links a w)
+-- what ends whole began whole
+begun_whole : (first : Bool) (e : EpochSummary) (schedule : List Links) (a : Asking) → (asking_after first e schedule a).is_whole ≡ true → a.is_whole ≡ true
+begun_whole first e [] a w = w
+begun_whole first e (links ∷ schedule) a w = whole_asking_before first e links a (begun_whole first e schedule (asking_event first e links a) w)
 
 after_one_more : (first : Bool) (e : EpochSummary) (schedule : List Links) (links : Links) (a : Asking) → asking_after first e (schedule ++ links ∷ []) a ≡ asking_event first e links (asking_after first e schedule a)
 after_one_more first e [] links a = refl
@@ -52,7 +37,9 @@ reached_next old new got sent got' sent' turn h same r =
 pub sends_for : (v : BackView) (got sent : Option (List Message)) → Reached v got sent → SendsFor v got sent
 sends_for v got sent r = λ w. by w v.summary refl where
   by : v.whole ≡ true → (s : Option Summary) → v.summary ≡ s → AsksSent v.first (knows v) (state v got sent)
-  by w None is = true-false (sym w ∙ ap (λ (a : Asking). a.is_whole) r.is ∙ after_broken v.first (knows v) r.schedule (begins v) (ap (λ s. (begun (is_none s) v.last (knows v)).is_whole) is))
+  by w None is =
+      let whole = begun_whole v.first (knows v) r.schedule (begins v) (sym (ap (λ (a : Asking). a.is_whole) r.is) ∙ w) in
+      true-false (sym whole ∙ ap (λ s. (begun (is_none s) v.last (knows v)).is_whole) is)
   by w (Some s) is =
       let same = r.is ∙ ap (λ s. asking_after v.first (knows v) r.schedule (begun (is_none s) v.last (knows v))) is in
       subst (AsksSent v.first (knows v)) (sym same) (asking_sends v.first v.last (knows v) r.schedule (sym (ap (λ (a : Asking). a.is_whole) same) ∙ w))

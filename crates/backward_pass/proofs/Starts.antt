@@ -1,9 +1,11 @@
 -- Start locations that are asked, and their places.
-use Rattle.std.proofs.Common.{◌≡◌, ℕ, zero, suc, ◌+◌, ◌<◌, max, List, [], ◌∷◌, ◌++◌, length, take, get_or, refl, ap, ap₂, sym, ◌∙◌, Bool, true, false, ◌||◌, cond, arith, slice_get, Some}
-use Rattle.std.specs.List.{AllByRecursion, IsDistinct}
+use Rattle.std.proofs.Common.{◌≡◌, ℕ, zero, suc, ◌+◌, ◌<◌, max, List, [], ◌∷◌, ◌++◌, length, take, get_or, refl, ap, ap₂, sym, ◌∙◌, subst, Bool, true, false, ◌||◌, cond, arith, slice_get, Some}
+use Rattle.std.specs.List.{IsDistinct}
 use Rattle.std.specs.Ordering.{eq_by_cmp}
 use Rattle.std.proofs.Math.Seq.{take-suc}
 use Rattle.std.proofs.lemmas.Bool.{and_parts, and_from}
+use Rattle.std.proofs.lemmas.Option.{slice_get_within, get_or_from_slice_get}
+use Rattle.std.proofs.lemmas.List.Elements.{All-from_recursion}
 use Rattle.std.proofs.lemmas.List.Folds.{list_any-append}
 use Rattle.flow_model.specs.declared.Loc.{Loc}
 use Rattle.lists.specs.Sets.{has, is_within}
@@ -27,14 +29,9 @@ place_is (m ∷ ms) l zero d is =
     ap (λ (k : Loc). cond (eq_by_cmp loc_cmp l k) 1 (1 + places_up_to ms l)) same ∙ ap (λ (b : Bool). cond b 1 (1 + places_up_to ms l)) ((eq_by_cmp_equiv loc_total).refl l)
 place_is (m ∷ ms) l (suc i) d is =
     let rest = place_is ms l i d.1 is in
-    ap (λ (b : Bool). cond b 1 (1 + places_up_to ms l)) (other ms i d.0 is) ∙ omega (arith, rest)
-  where
-    other : (ls : List Loc) (i : ℕ) → AllByRecursion (λ k. eq_by_cmp loc_cmp m k ≡ false) ls → slice_get ls i ≡ Some l → eq_by_cmp loc_cmp l m ≡ false
-    other [] i a is = cc
-    other (k ∷ ls) zero a is =
-        let same : k ≡ l = cc in
-        (eq_by_cmp_equiv loc_total).symm l m ∙ ap (eq_by_cmp loc_cmp m) (sym same) ∙ a.0
-    other (k ∷ ls) (suc i) a is = other ls i a.1 is
+    let apart : eq_by_cmp loc_cmp m l ≡ false =
+    subst (λ (k : Loc). eq_by_cmp loc_cmp m k ≡ false) (get_or_from_slice_get ms i l l is) (All-from_recursion _ ms d.0 i l (slice_get_within ms i l is)) in
+    ap (λ (b : Bool). cond b 1 (1 + places_up_to ms l)) ((eq_by_cmp_equiv loc_total).symm l m ∙ apart) ∙ omega (arith, rest)
 
 -- ---- several locations
 

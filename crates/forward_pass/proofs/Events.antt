@@ -18,7 +18,7 @@ use Rattle.pass_parts.specs.declared.pass_turn.PassTurn.TheVariants.{Moved, NotY
 use Rattle.pass_parts.specs.declared.requests.Request.{Request}
 use Rattle.pass_parts.specs.Ends.{got_by, unsent, sent_by, with}
 use Rattle.pass_parts.specs.Events.{IsEvent, IsAtRest}
-use Rattle.pass_parts.proofs.Events.{links_of, free, stuck, sent_same, still_none, refused, was_over}
+use Rattle.pass_parts.proofs.Events.{links_of, free, stuck, sent_same, still_none, moved, ended, refused, was_over}
 use Rattle.pass_parts.specs.Requests.{locations, AreCounted}
 use Rattle.forward_pass.specs.Received.{is_answerable}
 use Rattle.forward_pass.specs.Rest.{rest_of}
@@ -29,25 +29,12 @@ use Rattle.forward_pass.proofs.Messages.{from_more, heard_is, answerable_is, cou
 -- ---- the definition's event, by cases
 
 module _ (e : EpochSummary) (asked : List Loc) (links : Links) (f : Answering) where
-  on_over : f.is_over ≡ true → answering_event e asked links f ≡ f
-  on_over o = ap (λ (b : Bool). answering_by e asked links f b f.is_whole) o
-
-  on_whole : f.is_over ≡ false → f.is_whole ≡ true → answering_event e asked links f ≡ whole_answering e asked links f f.sending f.left
-  on_whole o w = ap₂ (answering_by e asked links f) o w
+  on_whole : (sending : List Message) (left : List Loc) → f.is_over ≡ false → f.is_whole ≡ true → f.sending ≡ sending → f.left ≡ left
+      → answering_event e asked links f ≡ whole_answering e asked links f sending left
+  on_whole sending left o w s d = ap₂ (answering_by e asked links f) o w ∙ ap₂ (whole_answering e asked links f) s d
 
   on_broken : f.is_over ≡ false → f.is_whole ≡ false → answering_event e asked links f ≡ broken_answering links f (is_ended f.got)
   on_broken o w = ap₂ (answering_by e asked links f) o w
-
-  on_push : (m : Message) (sending : List Message) → f.is_over ≡ false → f.is_whole ≡ true → f.sending ≡ m ∷ sending
-      → answering_event e asked links f ≡ push_answer links.has_room f m sending
-  on_push m sending o w s = on_whole o w ∙ ap (λ (ms : List Message). whole_answering e asked links f ms f.left) s
-
-  on_request : (l : Loc) (left : List Loc) → f.is_over ≡ false → f.is_whole ≡ true → f.sending ≡ [] → f.left ≡ l ∷ left
-      → answering_event e asked links f ≡ build_or_pop (is_resolvable asked f.got (e.ends l)) e asked links f l left
-  on_request l left o w s d = on_whole o w ∙ ap₂ (whole_answering e asked links f) s d
-
-  on_last : f.is_over ≡ false → f.is_whole ≡ true → f.sending ≡ [] → f.left ≡ [] → answering_event e asked links f ≡ pop_or_end e asked links f (is_ended f.got)
-  on_last o w s d = on_whole o w ∙ ap₂ (whole_answering e asked links f) s d
 
 abbrev pop_by : Bool → Bool → Answering → Option Message → Answering
 pop_by true refused f next = pop_answer refused f next
@@ -93,8 +80,8 @@ keeps_pop v new (Some got) sent later m o k e t =
       running : is_ended got ≡ false
       running = sym k.heard ∙ o
 
-      ended : new.received.is_ended ≡ is_ended (m ∷ [])
-      ended = t.ended ∙ ap (λ (b : Bool). is_ended (m ∷ []) || b) o ∙ or-false (is_ended (m ∷ []))
+      end_came : new.received.is_ended ≡ is_ended (m ∷ [])
+      end_came = t.ended ∙ ap (λ (b : Bool). is_ended (m ∷ []) || b) o ∙ or-false (is_ended (m ∷ []))
 
       was : new.whole ≡ true → (v.whole ≡ true) × (is_whole_message m ≡ true)
       was w = was_whole v.whole t.is_refused m (sym t.whole ∙ w)
@@ -102,11 +89,11 @@ keeps_pop v new (Some got) sent later m o k e t =
       kept : ForeKeeps (record v { received = new.received; whole = new.whole }) (Some (got ++ m ∷ [])) sent
       kept = record {
         known = λ w. k.known (was w).0;
-        heard = ended ∙ sym (ended_after got (m ∷ []) running);
+        heard = end_came ∙ sym (ended_after got (m ∷ []) running);
         alone = k.alone;
         received = λ w. from_more m got v.asked v.received new.received o (t.received w) (k.received (was w).0);
         counted = λ w _. k.counted (was w).0 o;
-        ends = λ w h. (got, ap (λ (x : Message). got ++ x ∷ []) (whole_end m (was w).1 (sym ended ∙ h)));
+        ends = λ w h. (got, ap (λ (x : Message). got ++ x ∷ []) (whole_end m (was w).1 (sym end_came ∙ h)));
       }
 
 -- ---- the events
@@ -138,77 +125,66 @@ module _ (v : ForeView) (got sent : Option (List Message)) (k : ForeKeeps v got 
   -- a growth is refused
   breaks : v.over ≡ false → answering_event (known_by v) v.asked (free true) (fore_state v got sent) ≡ record (fore_state v got sent) { is_whole = false }
       → IsEvent forwards v got sent (record v { whole = false }) got sent Moved
-  breaks o h = record {
-    happens = record {
-      links = free true;
-      could_move = (refl, refl);
-      is = ap (λ (ms : List Message). record (fore_state v got sent) { sent = ms; is_whole = false }) (sent_same v.over v.over false v.whole o o sent) ∙ sym h;
-    };
-    keeps = record { known = λ t. true-false (sym t); heard = k.heard; alone = k.alone; received = λ t. true-false (sym t); counted = λ t. true-false (sym t); ends = λ t. true-false (sym t) };
-    same = record { summary = refl; asked = refl };
-    over = tt;
-    running = o;
-    not_yet = tt;
-  }
+  breaks o h =
+      moved forwards v got sent (record v { whole = false }) got sent (End true) true
+      (ap (λ (ms : List Message). record (fore_state v got sent) { sent = ms; is_whole = false }) (sent_same v.over v.over false v.whole o o sent) ∙ sym h)
+      (record {
+        known = λ t. true-false (sym t);
+        heard = k.heard;
+        alone = k.alone;
+        received = λ t. true-false (sym t);
+        counted = λ t. true-false (sym t);
+        ends = λ t. true-false (sym t);
+      })
+      (record { summary = refl; asked = refl }) o
 
   built_next : (new : ForeView) → v.over ≡ false → v.whole ≡ true → v.sending ≡ [] → Builds v new → IsEvent forwards v got sent new got sent Moved
   built_next new o w s b = subst (λ n. IsEvent forwards v got sent n got sent Moved) (sym b.is) (by b.is_refused) where
     at : (links : Links) → answering_event (known_by v) v.asked links (fore_state v got sent)
         ≡ build links.is_refused (known_by v) v.asked (fore_state v got sent) b.request.loc (locations b.left)
     at links =
-        on_request (known_by v) v.asked links (fore_state v got sent) b.request.loc (locations b.left) o w s (ap locations b.next)
+        on_whole (known_by v) v.asked links (fore_state v got sent) [] (b.request.loc ∷ locations b.left) o w s (ap locations b.next)
         ∙ ap (λ (t : Bool). build_or_pop t (known_by v) v.asked links (fore_state v got sent) b.request.loc (locations b.left)) (sym (request_is b.request b.left w b.next) ∙ b.answerable)
 
     alone : (sent : Option (List Message)) → IfNone sent ((v.left ≡ []) × (v.sending ≡ [])) → (A : Type 0) → IfNone sent A
     alone None h A = (let nothing : [] ≡ b.request ∷ b.left = sym h.0 ∙ b.next in cc)
     alone (Some ms) h A = tt
 
+    answered : (Loc → List SourceByte) → Answering
+    answered source =
+        record (fore_state v got sent) { left = locations b.left; sending = answer b.request.loc (resolved source ((known_by v).ends b.request.loc)) }
+
     by : (refused : Bool) → IsEvent forwards v got sent (with_answer refused v b.request b.left) got sent Moved
     by true = breaks o (at (free true))
-    by false = record {
-      happens = record {
-        links = free false;
-        could_move = (refl, refl);
-        is = ap (λ (source : Loc → List SourceByte). record (fore_state v got sent) { left = locations b.left; sending = answer b.request.loc (resolved source ((known_by v).ends b.request.loc)) })
-            (heard_is (got_by got) v.asked v.received (k.received w)) ∙ sym (at (free false));
-      };
-      keeps = record {
-        known = k.known;
-        heard = k.heard;
-        alone = alone sent k.alone _;
-        received = k.received;
-        counted = λ t o. counted_left v.asked (known_by v) b.request b.left (subst (AreCounted v.asked (known_by v)) b.next (k.counted t o));
-        ends = k.ends;
-      };
-      same = record { summary = refl; asked = refl };
-      over = tt;
-      running = o;
-      not_yet = tt;
-    }
+    by false =
+        moved forwards v got sent (with_answer false v b.request b.left) got sent (End true) false
+        (ap answered (heard_is (got_by got) v.asked v.received (k.received w)) ∙ sym (at (free false)))
+        (record {
+          known = k.known;
+          heard = k.heard;
+          alone = alone sent k.alone _;
+          received = k.received;
+          counted = λ t o. counted_left v.asked (known_by v) b.request b.left (subst (AreCounted v.asked (known_by v)) b.next (k.counted t o));
+          ends = k.ends;
+        })
+        (record { summary = refl; asked = refl }) o
 
   resolved_next : (new : ForeView) → v.over ≡ false → v.whole ≡ true → v.sending ≡ [] → Resolves v new → IsEvent forwards v got sent new got sent Moved
   resolved_next new o w s b = subst (λ n. IsEvent forwards v got sent n got sent Moved) (sym b.is) (by b.is_refused) where
     at : (links : Links) → answering_event (known_by v) v.asked links (fore_state v got sent) ≡ resolve links.is_refused (known_by v) v.asked (fore_state v got sent)
     at links =
-        on_last (known_by v) v.asked links (fore_state v got sent) o w s (ap locations b.none_left)
+        on_whole (known_by v) v.asked links (fore_state v got sent) [] [] o w s (ap locations b.none_left)
         ∙ ap (pop_or_end (known_by v) v.asked links (fore_state v got sent)) (sym k.heard ∙ b.ended)
         ∙ ap (resolve_or_end (known_by v) v.asked links (fore_state v got sent)) b.not_yet
 
     by : (refused : Bool) → IsEvent forwards v got sent (with_rows refused v) got sent Moved
     by true = breaks o (at (free true))
-    by false = record {
-      happens = record {
-        links = free false;
-        could_move = (refl, refl);
-        is = ap (λ (source : Loc → List SourceByte). record (fore_state v got sent) { rows = Some (rows_of (known_by v) source) })
-            (heard_is (got_by got) v.asked v.received (k.received w)) ∙ sym (at (free false));
-      };
-      keeps = record { known = k.known; heard = k.heard; alone = k.alone; received = k.received; counted = k.counted; ends = k.ends };
-      same = record { summary = refl; asked = refl };
-      over = tt;
-      running = o;
-      not_yet = tt;
-    }
+    by false =
+        moved forwards v got sent (with_rows false v) got sent (End true) false
+        (ap (λ (source : Loc → List SourceByte). record (fore_state v got sent) { rows = Some (rows_of (known_by v) source) })
+        (heard_is (got_by got) v.asked v.received (k.received w)) ∙ sym (at (free false)))
+        (record { known = k.known; heard = k.heard; alone = k.alone; received = k.received; counted = k.counted; ends = k.ends })
+        (record { summary = refl; asked = refl }) o
 
   pub moved_next : (new : ForeView) → Moves v new → IsEvent forwards v got sent new got sent Moved
   moved_next new m = ⊎_elim (built_next new m.running m.whole m.sending) (resolved_next new m.running m.whole m.sending) m.is
@@ -218,9 +194,10 @@ module _ (v : ForeView) (got sent : Option (List Message)) (k : ForeKeeps v got 
       → answering_event (known_by v) v.asked links (fore_state v got sent) ≡ pop_by b links.is_refused (fore_state v got sent) links.item
   on_pop links r false w left d = on_broken (known_by v) v.asked links (fore_state v got sent) r.running w ∙ ap (broken_answering links (fore_state v got sent)) (sym k.heard ∙ r.ended)
   on_pop links r true w [] d =
-      on_last (known_by v) v.asked links (fore_state v got sent) r.running w (r.idle w).sending (ap locations d) ∙ ap (pop_or_end (known_by v) v.asked links (fore_state v got sent)) (sym k.heard ∙ r.ended)
+      on_whole (known_by v) v.asked links (fore_state v got sent) [] [] r.running w (r.idle w).sending (ap locations d)
+      ∙ ap (pop_or_end (known_by v) v.asked links (fore_state v got sent)) (sym k.heard ∙ r.ended)
   on_pop links r true w (q ∷ left) d =
-      on_request (known_by v) v.asked links (fore_state v got sent) q.loc (locations left) r.running w (r.idle w).sending (ap locations d)
+      on_whole (known_by v) v.asked links (fore_state v got sent) [] (q.loc ∷ locations left) r.running w (r.idle w).sending (ap locations d)
       ∙ ap (λ (b : Bool). build_or_pop b (known_by v) v.asked links (fore_state v got sent) q.loc (locations left))
       (sym (request_is q left w d) ∙ subst (CannotAnswer v.received) d (r.idle w).requests)
 
@@ -229,7 +206,8 @@ module _ (v : ForeView) (got sent : Option (List Message)) (k : ForeKeeps v got 
       → answering_event (known_by v) v.asked links (fore_state v got sent) ≡ end_answers links.has_room (fore_state v got sent)
   on_end links r false w left d = on_broken (known_by v) v.asked links (fore_state v got sent) r.running w ∙ ap (broken_answering links (fore_state v got sent)) (sym k.heard ∙ r.ended)
   on_end links r true w [] d =
-      on_last (known_by v) v.asked links (fore_state v got sent) r.running w (r.idle w).sending (ap locations d) ∙ ap (pop_or_end (known_by v) v.asked links (fore_state v got sent)) (sym k.heard ∙ r.ended)
+      on_whole (known_by v) v.asked links (fore_state v got sent) [] [] r.running w (r.idle w).sending (ap locations d)
+      ∙ ap (pop_or_end (known_by v) v.asked links (fore_state v got sent)) (sym k.heard ∙ r.ended)
       ∙ ap (resolve_or_end (known_by v) v.asked links (fore_state v got sent)) (some_is v.rows ((r.idle w).sinks d r.ended)).1
   on_end links r true w (q ∷ left) d =
       true-false (sym (answerable q) ∙ subst (CannotAnswer v.received) d (r.idle w).requests) where
@@ -251,31 +229,26 @@ module _ (v : ForeView) (got sent : Option (List Message)) (k : ForeKeeps v got 
       → IsEvent forwards v got sent new got later Moved
   push_next new later m s e n =
       subst (λ new. IsEvent forwards v got sent new got later Moved) (sym n)
-      (record {
-        happens = record { links = free false; could_move = (refl, refl); is = by sent k.alone e };
-        keeps = keeps_push v (rest_of v.sending) v.over got sent later m e (λ a. (a.0, ap rest_of a.1)) k;
-        same = record { summary = refl; asked = refl };
-        over = tt;
-        running = s.running;
-        not_yet = tt;
-      })
+      (moved forwards v got sent (record v { sending = rest_of v.sending }) got later (End true) false (by sent k.alone e)
+      (keeps_push v (rest_of v.sending) v.over got sent later m e (λ a. (a.0, ap rest_of a.1)) k) (record { summary = refl; asked = refl }) s.running)
     where
       by : (sent : Option (List Message)) → IfNone sent ((v.left ≡ []) × (v.sending ≡ [])) → later ≡ with m sent
           → fore_state (record v { sending = rest_of v.sending }) got later ≡ answering_event (known_by v) v.asked (free false) (fore_state v got sent)
       by None alone e = (let nothing : [] ≡ m ∷ rest_of v.sending = sym alone.1 ∙ s.sending in cc)
       by (Some sent) alone e =
           ap (fore_state (record v { sending = rest_of v.sending }) got) e
-          ∙ sym (on_push (known_by v) v.asked (free false) (fore_state v got (Some sent)) m (rest_of v.sending) s.running s.whole s.sending)
+          ∙ sym (on_whole (known_by v) v.asked (free false) (fore_state v got (Some sent)) (m ∷ rest_of v.sending) _ s.running s.whole s.sending refl)
 
   -- what is next is done by the pass as it is after the look
   module _ (seen : ForeView) (is : seen ≡ v) where
     pub over_next : v.over ≡ true → IsEvent forwards v got sent seen got sent Over
-    over_next o = was_over forwards v seen got sent is k (itself v) o (on_over (known_by v) v.asked stuck (fore_state v got sent) o)
+    over_next o =
+        was_over forwards v seen got sent is k (itself v) o (ap (λ (b : Bool). answering_by (known_by v) v.asked stuck (fore_state v got sent) b v.whole) o)
 
     pub full_next : (later : Option (List Message)) (m : Message) → Sends m v → later ≡ sent → IsEvent forwards v got sent seen got later NotYet
     full_next later m s e =
         refused forwards v seen got sent is k (itself v) got later s.running refl e
-        (on_push (known_by v) v.asked stuck (fore_state v got sent) m (rest_of v.sending) s.running s.whole s.sending)
+        (on_whole (known_by v) v.asked stuck (fore_state v got sent) (m ∷ rest_of v.sending) _ s.running s.whole s.sending refl)
 
     pub empty_next : (later : Option (List Message)) → IsAtRest forwards IsQuiet false v → later ≡ got → IsEvent forwards v got sent seen later sent NotYet
     empty_next later r e =
@@ -287,32 +260,30 @@ module _ (v : ForeView) (got sent : Option (List Message)) (k : ForeKeeps v got 
 
     pub pop_next : (new : ForeView) (later : Option (List Message)) (m : Message) → IsAtRest forwards IsQuiet false v → later ≡ with m got → Takes m seen new
         → IsEvent forwards v got sent new later sent Moved
-    pop_next new later m r e from_seen = record {
-      happens = record { links = links_of true (Some m) t.is_refused; could_move = (refl, refl); is = by got e (sym k.heard ∙ r.ended) (on_pop (links_of true (Some m) t.is_refused) r v.whole refl v.left refl) };
-      keeps = keeps_pop v new got sent later m r.ended k e t;
-      same = subst (λ n. IsSameFore n v) (sym t.is) (record { summary = refl; asked = refl });
-      over = tt;
-      running = o;
-      not_yet = tt;
-    } where
-      t : Takes m v new
-      t = subst (λ v. Takes m v new) is from_seen
+    pop_next new later m r e from_seen =
+        moved forwards v got sent new later sent m t.is_refused
+        (by got e (sym k.heard ∙ r.ended) (on_pop (links_of true (Some m) t.is_refused) r v.whole refl v.left refl))
+        (keeps_pop v new got sent later m r.ended k e t) (subst (λ n. IsSameFore n v) (sym t.is) (record { summary = refl; asked = refl })) o where
+          t : Takes m v new
+          t = subst (λ v. Takes m v new) is from_seen
 
-      o : new.over ≡ false
-      o = ap (λ (n : ForeView). n.over) t.is ∙ r.running
+          o : new.over ≡ false
+          o = ap (λ (n : ForeView). n.over) t.is ∙ r.running
 
-      taken_by : (b : Bool) (f : Answering) → pop_by b t.is_refused f (Some m) ≡ took_by b t.is_refused f m
-      taken_by true f = refl
-      taken_by false f = refl
+          taken_by : (b : Bool) (f : Answering) → pop_by b t.is_refused f (Some m) ≡ took_by b t.is_refused f m
+          taken_by true f = refl
+          taken_by false f = refl
 
-      by : (got : Option (List Message)) → later ≡ with m got → is_ended (got_by got) ≡ false
-          → answering_event (known_by v) v.asked (links_of true (Some m) t.is_refused) (fore_state v got sent) ≡ pop_by v.whole t.is_refused (fore_state v got sent) (Some m)
-          → fore_state new later sent ≡ answering_event (known_by v) v.asked (links_of true (Some m) t.is_refused) (fore_state v got sent)
-      by None e h at = true-false h
-      by (Some got) e h at =
-          ap (λ (g : Option (List Message)). fore_state new g sent) e ∙ took m v new t got (sent_by new.over new.whole sent)
-          ∙ ap (λ (ms : List Message). took_by v.whole t.is_refused (answering_of v got ms) m) (sent_same new.over v.over new.whole v.whole o r.running sent)
-          ∙ sym (at ∙ taken_by v.whole (fore_state v (Some got) sent))
+          by : (got : Option (List Message)) → later ≡ with m got → is_ended (got_by got) ≡ false
+              → answering_event (known_by v) v.asked (links_of true (Some m) t.is_refused) (fore_state v got sent)
+              ≡ pop_by v.whole t.is_refused (fore_state v got sent) (Some m)
+              → fore_state new later sent ≡ answering_event (known_by v) v.asked (links_of true (Some m) t.is_refused) (fore_state v got sent)
+          by None e h at = true-false h
+          by (Some got) e h at =
+              ap (λ (g : Option (List Message)). fore_state new g sent) e ∙ took m v new t got (sent_by new.over new.whole sent)
+              ∙ ap (λ (ms : List Message). took_by v.whole t.is_refused (answering_of v got ms) m)
+              (sent_same new.over v.over new.whole v.whole o r.running sent)
+              ∙ sym (at ∙ taken_by v.whole (fore_state v (Some got) sent))
 
     pub no_room_next : (later : Option (List Message)) → IsAtRest forwards IsQuiet true v → later ≡ sent → IsEvent forwards v got sent seen got later NotYet
     no_room_next later r e = refused forwards v seen got sent is k (itself v) got later r.running refl e (on_end stuck r v.whole refl v.left refl)
@@ -322,14 +293,8 @@ module _ (v : ForeView) (got sent : Option (List Message)) (k : ForeKeeps v got 
     end_next later r =
         subst (λ u. later ≡ with (End u.whole) sent → IsEvent forwards v got sent (record u { over = true }) got later Over) (sym is)
         (λ e.
-        record {
-          happens = record { links = free false; could_move = tt; is = by sent e (on_end (free false) r v.whole refl v.left refl) };
-          keeps = keeps_push v v.sending true got sent later (End v.whole) e (λ a. a) k;
-          same = record { summary = refl; asked = refl };
-          over = refl;
-          running = tt;
-          not_yet = tt;
-        })
+        ended forwards v got sent (record v { over = true }) got later (End true) false (by sent e (on_end (free false) r v.whole refl v.left refl))
+        (keeps_push v v.sending true got sent later (End v.whole) e (λ a. a) k) (record { summary = refl; asked = refl }) refl)
       where
         by : (sent : Option (List Message)) → later ≡ with (End v.whole) sent
             → answering_event (known_by v) v.asked (free false) (fore_state v got sent) ≡ end_answers true (fore_state v got sent)

@@ -1,5 +1,4 @@
 mod OneMore
-mod Lists
 mod Messages
 mod Events
 pub mod Reaching

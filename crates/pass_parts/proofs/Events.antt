@@ -5,7 +5,7 @@ use Rattle.flow_model.specs.declared.Message.{Message}
 use Rattle.flow_model.specs.declared.Message.TheVariants.{End}
 use Rattle.stream_model.specs.Passes.{Links}
 use Rattle.stream_model.specs.Schedules.{Need}
-use Rattle.pass_parts.specs.declared.pass_turn.PassTurn.TheVariants.{NotYet, Over}
+use Rattle.pass_parts.specs.declared.pass_turn.PassTurn.TheVariants.{Moved, NotYet, Over}
 use Rattle.pass_parts.specs.Ends.{with, unsent, sent_by}
 use Rattle.pass_parts.specs.Events.{Events, IsEvent}
 use Rattle.pass_parts.specs.Turns.{Waits}
@@ -29,6 +29,20 @@ sent_same o p w x no_o no_p (Some sent) = refl
 pub still_none : (A : Type 0) (m : Message) (sent later : Option (List Message)) → later ≡ with m sent → IfNone sent A → IfNone later A
 still_none A m None later e h = subst (λ s. IfNone s A) (sym e) h
 still_none A m (Some sent) later e h = subst (λ s. IfNone s A) (sym e) tt
+
+-- the links do what the event needs
+module _ {V S : Type 0} (p : Events V S) (old : V) (got sent : Option (List Message)) (new : V) (got' sent' : Option (List Message))
+    (next : Message) (refused : Bool) (is : p.state new got' sent' ≡ p.event old (links_of true (Some next) refused) (p.state old got sent))
+    (keeps : p.Keeps new got' sent') (same : p.IsSame new old) where
+  abbrev met : Links
+  met = links_of true (Some next) refused
+
+  pub moved : p.is_over new ≡ false → IsEvent p old got sent new got' sent' Moved
+  moved o = record { happens = record { links = met; could_move = (refl, refl); is = is }; keeps = keeps; same = same; over = tt; running = o; not_yet = tt }
+
+  -- the End is sent
+  pub ended : p.is_over new ≡ true → IsEvent p old got sent new got' sent' Over
+  ended o = record { happens = record { links = met; could_move = tt; is = is }; keeps = keeps; same = same; over = o; running = tt; not_yet = tt }
 
 -- nothing happens
 module _ {V S : Type 0} (p : Events V S) (old new : V) (got sent : Option (List Message)) (is : new ≡ old) (k : p.Keeps old got sent) (same : p.IsSame old old) where

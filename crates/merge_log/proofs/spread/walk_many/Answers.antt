@@ -22,9 +22,6 @@ spread-requires-clause-clear c =
     omega (arith, ap length c.in-Some.ensures.kept, c.in-Some.ensures.below, c.loop-node.invariant.below, c.loop-node.invariant.room) in
     clear_taken _ masks _ c.in-Some.node c.in-Some.ensures.kept c.take-mask.ensures.taken inside c.in-Some.ensures.last
 
-pub spread-requires-clause-few : goal.spread-requires-clause-few
-spread-requires-clause-few c = subst (λ (n : ℕ). n ≤ 64) (sym c.loop-node.invariant.sets) c.requires.few
-
 pub returns-clause-found : goal.returns-clause-found
 returns-clause-found c r q h =
     let masks = c.loop-node.masks.masks.items in

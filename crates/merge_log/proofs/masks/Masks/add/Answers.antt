@@ -5,9 +5,6 @@ use Rattle.std.proofs.lemmas.List.{get_or_read}
 use Rattle.merge_log.proofs.Blocks.{block_in, block_marked, below_marked}
 use Rattle.merge_log.proofs.masks.Masks.add.Goals as goal
 
-pub index_mut-requires : goal.index_mut-requires
-index_mut-requires c = omega (arith, c.requires, c.args.self.now.masks.ok.0)
-
 pub index_mut-requires-2 : goal.index_mut-requires-2
 index_mut-requires-2 c =
     let s = c.args.self.now in

@@ -9,8 +9,3 @@ index-requires c =
     let above : 0 < past = omega (arith, c.loop-self-test.true) in
     let within : past ≤ length s.masks.items = omega (arith, c.loop-self.invariant.within, c.requires.room, ap length c.loop-self.invariant.kept) in
     omega (arith, block_before s.masks.items s.blocks.items past s.marked c.if-past-eq0.true above within, s.blocks.ok.0)
-
-pub index-requires-else-past-eq0 : goal.index-requires-else-past-eq0
-index-requires-else-past-eq0 c =
-    let s = c.loop-self.self in
-    omega (arith, c.loop-self-test.true, c.loop-self.invariant.within, c.requires.room, ap length c.loop-self.invariant.kept, s.masks.ok.0)
