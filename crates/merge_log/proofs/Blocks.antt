@@ -13,10 +13,6 @@ use Rattle.merge_log.proofs.Roots.{number_case}
 pub block_in : (masks : List ℕ) (blocks : List Bool) (n : ℕ) → AreMarked masks blocks → n < length masks → n / 64 < length blocks
 block_in masks blocks n marked h = let room : length masks ≤ 64 * length blocks = marked.room in omega arith
 
--- the block before a place where one begins
-pub block_before : (masks : List ℕ) (blocks : List Bool) (past : ℕ) → AreMarked masks blocks → past % 64 ≡ 0 → 0 < past → past ≤ length masks → past / 64 - 1 < length blocks
-block_before masks blocks past marked whole above within = let room : length masks ≤ 64 * length blocks = marked.room in omega arith
-
 -- the other blocks are as they were
 other_block : (blocks : List Bool) (b j : ℕ) (v : Bool) → j ≢ b → slice_get (set blocks b v) j ≡ Some false → slice_get blocks j ≡ Some false
 other_block blocks b j v other h =

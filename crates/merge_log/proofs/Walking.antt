@@ -1,5 +1,5 @@
 -- A walk goes on, and ends with the leaves under its root.
-use Rattle.std.proofs.Common.{◌*◌, ◌^◌, Fits, w32, w64, ◌≡◌, ℕ, zero, suc, ◌+◌, ◌<◌, ◌≤◌, ◌-◌, ◌==◌, List, [], ◌∷◌, ◌++◌, length, refl, ap, sym, ◌∙◌, subst, Bool, true, false, ◌||◌, if◌then◌else◌, arith, get_or, slice_index, ◌⊎◌, inl, inr, length-append}
+use Rattle.std.proofs.Common.{◌≡◌, ℕ, zero, suc, ◌+◌, ◌<◌, ◌≤◌, ◌-◌, ◌==◌, List, [], ◌∷◌, ◌++◌, length, refl, ap, sym, ◌∙◌, subst, Bool, true, false, ◌||◌, if◌then◌else◌, arith, get_or, slice_index, ◌⊎◌, inl, inr, length-append}
 use Rattle.std.specs.Prelude.{Some}
 use Rattle.std.proofs.Math.ListN.{set}
 use Rattle.std.proofs.lemmas.Grind.{common_steps}
@@ -48,16 +48,6 @@ pub record IsWalk (log : List Entry) (root round : ℕ) (marks stack : List ℕ)
 -- each marked node is done or on the stack
 abbrev pub none_open : ℕ → Type 0
 none_open m = ⊥
-
--- the index of a node's entry
-pub index_fits : (n : ℕ) → 0 < n → 1 ≤ n
-index_fits n h = omega arith
-
-pub index_within : (log : List Entry) (n : ℕ) → 0 < n → n ≤ length log → n - 1 < length log
-index_within log n h k = omega arith
-
-pub offset_fits : (n : ℕ) → Fits w32 n → Fits w64 ((n - 1) * 12)
-offset_fits n h = let small : n < 2 ^ 32 = h.fits in record { fits = omega (arith, small) }
 
 pub entry_there : (log : List Entry) (n : ℕ) (d : Entry) → 0 < n → n ≤ length log → entry_at log n ≡ Some (get_or log (n - 1) d)
 entry_there log zero d h k = absurd (omega arith)

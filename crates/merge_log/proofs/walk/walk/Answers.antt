@@ -36,11 +36,6 @@ loop-next-preserved-in-Continue-branch-4 c = record {
       (terms_step c.args.log.now c.in-Some.next _ c.in-Start.ensures.at tt) c.in_ok-add-in-Start.ensures c.loop-next.invariant.walk;
 }
 
-pub visit-requires-in-Union : goal.visit-requires-in-Union
-visit-requires-in-Union c =
-    let u = (popped _ _ _ _ _ _ _ _ c.in-Some.ensures.items c.loop-next.invariant.walk).0.stands in
-    omega (arith, u, c.loop-next.invariant.room, c.in-Union.ensures.before)
-
 pub visit-requires-in-Union-2 : goal.visit-requires-in-Union-2
 visit-requires-in-Union-2 c =
     let u = (popped _ _ _ _ _ _ _ _ c.in-Some.ensures.items c.loop-next.invariant.walk).0.stands in

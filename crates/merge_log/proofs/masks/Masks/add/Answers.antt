@@ -1,14 +1,9 @@
-use Rattle.std.proofs.Common.{ℕ, ap, arith}
+use Rattle.std.proofs.Common.{ℕ, ap}
 use Rattle.std.specs.Int.RustNames.{bit_or}
 use Rattle.std.proofs.Math.ListN.{set}
 use Rattle.std.proofs.lemmas.List.{get_or_read}
-use Rattle.merge_log.proofs.Blocks.{block_in, block_marked, below_marked}
+use Rattle.merge_log.proofs.Blocks.{block_marked, below_marked}
 use Rattle.merge_log.proofs.masks.Masks.add.Goals as goal
-
-pub index_mut-requires-2 : goal.index_mut-requires-2
-index_mut-requires-2 c =
-    let s = c.args.self.now in
-    omega (arith, block_in s.masks.items s.blocks.items c.args.node s.marked c.requires, s.blocks.ok.0)
 
 pub invariant_of-self : goal.invariant_of-self
 invariant_of-self c =
