@@ -74,9 +74,6 @@ pub record AreGiven (Q : ℕ → Terms → Terms → Type 0) (old now : List Fou
   pub given : (r : ℕ) → r < root → Q r (found_at old r) (found_at now r)
   pub rest : (r : ℕ) → root ≤ r → found_at now r ≡ found_at old r
 
-pub given_first : (Q : ℕ → Terms → Terms → Type 0) (fs : List FoundLeaves) → AreGiven Q fs fs 0
-given_first Q fs = record { sets = refl; given = λ r h. absurd (omega (arith, h)); rest = λ r h. refl }
-
 module _ (Q : ℕ → Terms → Terms → Type 0) (old now : List FoundLeaves) (root : ℕ) (a : AreGiven Q old now root) where
   given_step : (new : List FoundLeaves) → length new ≡ length now → ((r : ℕ) → root ≢ r → found_at new r ≡ found_at now r)
       → Q root (found_at now root) (found_at new root) → AreGiven Q old new (root + 1)

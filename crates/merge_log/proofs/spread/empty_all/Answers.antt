@@ -1,9 +1,6 @@
 use Rattle.std.proofs.Common.{arith, ◌<◌, length, refl}
-use Rattle.merge_log.proofs.Roots.{empty_terms, given_first, given_next, given_all}
+use Rattle.merge_log.proofs.Roots.{empty_terms, given_next, given_all}
 use Rattle.merge_log.proofs.spread.empty_all.Goals as goal
-
-pub loop-root-init : goal.loop-root-init
-loop-root-init c = given_first _ _
 
 pub loop-root-preserved : goal.loop-root-preserved
 loop-root-preserved c =

@@ -1,11 +1,8 @@
 use Rattle.std.proofs.Common.{arith, ap, ◌∙◌, ◌<◌, length}
 use Rattle.merge_log.specs.Walk.{has_leaf}
-use Rattle.merge_log.proofs.Roots.{given_first, given_next, given_all, found_lent}
+use Rattle.merge_log.proofs.Roots.{given_next, given_all, found_lent}
 use Rattle.merge_log.proofs.Sorting.{none_is_set}
 use Rattle.merge_log.proofs.spread.normalise_all.Goals as goal
-
-pub loop-root-init : goal.loop-root-init
-loop-root-init c = given_first _ _
 
 pub loop-root-preserved : goal.loop-root-preserved
 loop-root-preserved c =
