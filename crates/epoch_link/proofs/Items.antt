@@ -15,9 +15,8 @@ module _ {T : Type 0} where
 
   pub item-last : (l : List T) (x : T) (n : ℕ) → length l ≡ n → item_at (l ++ x ∷ []) n ≡ Some x
   item-last [] x zero e = refl
-  item-last [] x (suc n) e = absurd (omega arith)
-  item-last (y ∷ ys) x zero e = absurd (omega arith)
   item-last (y ∷ ys) x (suc n) e = item-last ys x n (omega arith)
+  item-last l x n e = absurd (omega arith)
 
   pub item-past : (l : List T) (p : ℕ) → length l ≤ p → item_at l p ≡ None
   item-past [] p h = refl

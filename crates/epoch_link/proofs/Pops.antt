@@ -1,6 +1,6 @@
 -- The consumer's steps keep the rule of the ring.
 use Rattle.std.proofs.Common.{◌≡◌, ◌≢◌, ℕ, suc, ◌+◌, ◌%◌, ◌^◌, ◌<◌, ◌≤◌, List, [], ◌∷◌, ◌++◌, length, get_or, set, Option, Some, None, Bool, true, sym, refl, ap, ap₂, ◌∙◌, subst, ⊎_elim, mod-lt, arith, length-append, length-set, get_or-set_other, get_or-set_same}
-use Rattle.std.proofs.lemmas.List.{append_assoc}
+use Rattle.std.proofs.lemmas.List.{append_assoc, set-get_or}
 use native.Mathlib.Nat.{add-mod_right}
 use mathlib.Core.Option.{some, none}
 use mathlib.Core.Logic.{dite}
@@ -13,7 +13,7 @@ use Rattle.epoch_link.specs.declared.ring_link.view.View.{View}
 use Rattle.epoch_link.specs.Words.{word_of}
 use Rattle.epoch_link.specs.Ring.{item_at, Produces, Consumes, Seats, Ring, listed, Remains, seen_tail, saw_tail, got_one}
 use Rattle.epoch_link.proofs.Items.{item-past, item-after, front, one_slot}
-use Rattle.epoch_link.proofs.Pushes.{long, lt_of_le_ne, keeps_producer, keeps_consumer}
+use Rattle.epoch_link.proofs.Pushes.{long, lt_of_le_ne, keeps_part, stays}
 
 module _ {T : Type 0} where
   -- the seats after a step of the consumer
@@ -41,7 +41,6 @@ module _ {T : Type 0} where
   sees_tail n id me mine idle s r wide at small =
       let y : ℕ = get_or s.words 0 0 in let l = long n s r in let me_is = (r.seats id me.0 at).1 mine in let within : length r.delivered.held ≤ n = r.delivered.fits in let few : n ≤ 65536 = r.few_slots in let two : length s.words ≡ 2 = r.word_count in
       let pos : 0 < n = r.some_slot in
-      let tail = get_or-set_same s.words 0 y 0 (omega arith) ∙ r.tail_is in let head = get_or-set_other s.words 0 1 y 0 (λ e. omega arith) ∙ r.head_is in
       let mine_is : word_of (length me.0.got) ≡ word_of (length r.got) = ap (λ (a : List T). word_of (length a)) me_is.1 in
       let told : (next : Option T) → item_at r.delivered.held 0 ≡ next → me.0.produces ≡ true → Remains n me.0 next = (λ next is f. let p_is = (r.seats id me.0 at).0 f in
       (record { held = r.delivered.held; in_order = p_is.1 ∙ r.delivered.in_order ∙ ap (λ (a : List T). a ++ r.delivered.held) (sym me_is.1); fits = r.delivered.fits }, is)) in
@@ -51,27 +50,10 @@ module _ {T : Type 0} where
         seen_tail me.0 y None,
         keeps,
         tt,
-        record {
-          sent = r.sent;
-          got = r.got;
-          lends = r.lends;
-          next = r.next;
-          producer = r.producer;
-          consumer = r.consumer;
-          some_slot = r.some_slot;
-          few_slots = r.few_slots;
-          slot_count = r.slot_count;
-          word_count = length-set s.words 0 y ∙ r.word_count;
-          tail_is = tail;
-          head_is = head;
-          delivered = r.delivered;
-          at_home = r.at_home;
-          room = r.room;
-          first = r.first;
-          seats = seats_popped s.views r.producer r.consumer id r.sent r.lends r.got r.got r.next r.next me.0 (seen_tail me.0 y None) r.seats at mine me_is.1 (sym idle') refl refl refl;
-          has_producer = keeps_producer s.views r.producer id me.0 (seen_tail me.0 y None) at refl r.has_producer;
-          has_consumer = keeps_consumer s.views r.consumer id me.0 (seen_tail me.0 y None) at refl r.has_consumer;
-        },
+        stays n s r r.lends r.next r.producer r.consumer (set-get_or s.words 0 0) r.slot_count r.at_home r.room r.first
+            (seats_popped s.views r.producer r.consumer id r.sent r.lends r.got r.got r.next r.next me.0 (seen_tail me.0 y None) r.seats at mine me_is.1 (sym idle') refl refl refl)
+            (keeps_part (λ z. z.produces) s.views r.producer id me.0 (seen_tail me.0 y None) at refl r.has_producer)
+            (keeps_part (λ z. z.consumes) s.views r.consumer id me.0 (seen_tail me.0 y None) at refl r.has_consumer),
         ((λ _. refl), (λ ne. absurd (ne (r.tail_is ∙ ap word_of (let q : length r.sent ≡ length r.got = omega arith in q) ∙ sym mine_is))), told None (item-past r.delivered.held 0 (omega arith))),
       ))
       (λ ne. let some_left : 0 < length r.delivered.held = lt_of_le_ne 0 (length r.delivered.held) (omega arith) (λ e. ne (sym e)) in let it = first_of_some r.delivered.held some_left in let x : T = it.0 in
@@ -82,28 +64,13 @@ module _ {T : Type 0} where
         ap (λ (j : ℕ). get_elem? s.homes j) k_is
             ∙ r.at_home (length r.got) (omega arith) (omega arith) (λ e _. absurd (omega arith)) (λ u _ f. none-some u (sym idle' ∙ f))
             ∙ ap (λ (o : Option T). some (some o)) (first_is n s r ∙ it.1),
-        record {
-          sent = r.sent;
-          got = r.got;
-          lends = r.lends;
-          next = Some x;
-          producer = r.producer;
-          consumer = r.consumer;
-          some_slot = r.some_slot;
-          few_slots = r.few_slots;
-          slot_count = length-set s.homes k none ∙ r.slot_count;
-          word_count = length-set s.words 0 y ∙ r.word_count;
-          tail_is = tail;
-          head_is = head;
-          delivered = r.delivered;
-          at_home = λ p lo hi not_sent not_next. set_else s.homes k (p % n) none (λ e. not_next x (one_slot (length r.got) n p (length r.got) lo hi (omega arith) (omega arith) (e ∙ k_is)) refl)
-              ∙ r.at_home p lo hi not_sent (λ u e _. not_next x e refl);
-          room = r.room;
-          first = λ u f. it.1 ∙ f;
-          seats = seats_popped s.views r.producer r.consumer id r.sent r.lends r.got r.got r.next (Some x) me.0 (seen_tail me.0 y (Some x)) r.seats at mine me_is.1 refl refl refl refl;
-          has_producer = keeps_producer s.views r.producer id me.0 (seen_tail me.0 y (Some x)) at refl r.has_producer;
-          has_consumer = keeps_consumer s.views r.consumer id me.0 (seen_tail me.0 y (Some x)) at refl r.has_consumer;
-        },
+        stays n s r r.lends (Some x) r.producer r.consumer (set-get_or s.words 0 0) (length-set s.homes k none ∙ r.slot_count)
+            (λ p lo hi not_sent not_next. set_else s.homes k (p % n) none (λ e. not_next x (one_slot (length r.got) n p (length r.got) lo hi (omega arith) (omega arith) (e ∙ k_is)) refl)
+            ∙ r.at_home p lo hi not_sent (λ u e _. not_next x e refl))
+            r.room (λ u f. it.1 ∙ f)
+            (seats_popped s.views r.producer r.consumer id r.sent r.lends r.got r.got r.next (Some x) me.0 (seen_tail me.0 y (Some x)) r.seats at mine me_is.1 refl refl refl refl)
+            (keeps_part (λ z. z.produces) s.views r.producer id me.0 (seen_tail me.0 y (Some x)) at refl r.has_producer)
+            (keeps_part (λ z. z.consumes) s.views r.consumer id me.0 (seen_tail me.0 y (Some x)) at refl r.has_consumer),
         ((λ e. absurd (differs e)), (λ _. (x, refl)), told (Some x) it.1),
       ))
 
@@ -140,8 +107,8 @@ module _ {T : Type 0} where
           room = λ f. omega arith;
           first = λ u f. absurd (none-some u f);
           seats = seats_popped s.views r.producer r.consumer id r.sent r.lends r.got got' r.next None v w r.seats at mine (ap₂ (λ (a b : List T). a ++ b) me_is.1 (ap listed holds_x)) refl refl refl refl;
-          has_producer = keeps_producer s.views r.producer id v w at refl r.has_producer;
-          has_consumer = keeps_consumer s.views r.consumer id v w at refl r.has_consumer;
+          has_producer = keeps_part (λ z. z.produces) s.views r.producer id v w at refl r.has_producer;
+          has_consumer = keeps_part (λ z. z.consumes) s.views r.consumer id v w at refl r.has_consumer;
         },
         refl,
       )

@@ -1,7 +1,8 @@
 -- The producer's steps keep the rule of the ring.
 use Rattle.std.proofs.Common.{◌≡◌, ◌≢◌, ℕ, zero, suc, ◌+◌, ◌%◌, ◌<◌, ◌≤◌, List, [], ◌∷◌, ◌++◌, length, get_or, set, Option, Some, None, Bool, true, false, sym, refl, ap, ap₂, ◌∙◌, subst, ⊎_elim, mod-lt, arith, length-append, length-set, lt_of_not-le, get_or-set_other, get_or-set_same}
-use Rattle.std.proofs.lemmas.List.{append_assoc}
+use Rattle.std.proofs.lemmas.List.{append_assoc, set-get_or}
 use mathlib.Core.Option.{some, none, some-injective, some-ne-none}
+use mathlib.Core.Option as maybe
 use mathlib.Core.Logic.{dite}
 use native.Mathlib.Decide.{ℕ_discrete, dec_le}
 use lib.ListN.{get_elem?}
@@ -11,12 +12,8 @@ use Rattle.atomic_table.specs.Table.{State, Me, step, keeps, takes, gives, Allow
 use Rattle.atomic_table.proofs.Lists.{at_set, set_here, set_else}
 use Rattle.epoch_link.specs.declared.ring_link.view.View.{View}
 use Rattle.epoch_link.specs.Words.{word_of, distance}
-use Rattle.epoch_link.specs.Ring.{item_at, Produces, Consumes, Seats, HasProducer, HasConsumer, Ring, seen_head, saw_head, sent_one}
+use Rattle.epoch_link.specs.Ring.{item_at, Produces, Consumes, Seats, HasProducer, HasConsumer, AtHome, Ring, seen_head, saw_head, sent_one}
 use Rattle.epoch_link.proofs.Items.{item-append, item-last, item-past, front, distance_is, one_slot}
-
-abbrev IsFalse : Bool → Type 0
-IsFalse true = ⊥
-IsFalse false = Unit {0}
 
 pub lt_of_le_ne : (a b : ℕ) → a ≤ b → a ≢ b → a < b
 lt_of_le_ne a b h ne = dite (dec_le b a) (λ g. absurd (ne (omega arith))) (λ g. lt_of_not-le g)
@@ -27,24 +24,14 @@ is_there (x ∷ xs) zero a e = omega arith
 is_there (x ∷ xs) (suc i) a e = let h = is_there xs i a e in omega arith
 
 module _ {T : Type 0} where
-  -- where one view gives way to another with the same parts, the two seats still have theirs
-  pub keeps_producer : (views : List (View T)) (seat id : ℕ) (v w : View T) → get_elem? views id ≡ some v → w.produces ≡ v.produces
-      → HasProducer seat views → HasProducer seat (set views id w)
-  keeps_producer views seat id v w at same (u, here, is) = dite (ℕ_discrete seat id)
+  -- where one view gives way to another with the same part, a seat still has its own
+  pub keeps_part : (part : View T → Bool) (views : List (View T)) (seat id : ℕ) (v w : View T) → get_elem? views id ≡ some v → part w ≡ part v
+      → (u : View T) × (get_elem? views seat ≡ some u) × (part u ≡ true) → (u : View T) × (get_elem? (set views id w) seat ≡ some u) × (part u ≡ true)
+  keeps_part part views seat id v w at same (u, here, is) = dite (ℕ_discrete seat id)
       (λ e. (
         w,
         subst (λ (j : ℕ). get_elem? (set views id w) j ≡ some w) (sym e) (set_here views id w (is_there views id v at)),
-        same ∙ ap (λ (z : View T). z.produces) (some-injective v u (sym at ∙ subst (λ (j : ℕ). get_elem? views j ≡ some u) e here)) ∙ is,
-      ))
-      (λ ne. (u, set_else views id seat w ne ∙ here, is))
-
-  pub keeps_consumer : (views : List (View T)) (seat id : ℕ) (v w : View T) → get_elem? views id ≡ some v → w.consumes ≡ v.consumes
-      → HasConsumer seat views → HasConsumer seat (set views id w)
-  keeps_consumer views seat id v w at same (u, here, is) = dite (ℕ_discrete seat id)
-      (λ e. (
-        w,
-        subst (λ (j : ℕ). get_elem? (set views id w) j ≡ some w) (sym e) (set_here views id w (is_there views id v at)),
-        same ∙ ap (λ (z : View T). z.consumes) (some-injective v u (sym at ∙ subst (λ (j : ℕ). get_elem? views j ≡ some u) e here)) ∙ is,
+        same ∙ ap part (some-injective v u (sym at ∙ subst (λ (j : ℕ). get_elem? views j ≡ some u) e here)) ∙ is,
       ))
       (λ ne. (u, set_else views id seat w ne ∙ here, is))
 
@@ -61,6 +48,34 @@ module _ {T : Type 0} where
       (λ t. ((λ f. absurd (t.0 (((seats j u t.1).0 f).0 ∙ sym me.0))), (seats j u t.1).1))
       (at_set views id j w u here)
 
+  -- the rule after a step by which nothing is sent or got, and the words are as they were
+  pub stays : (n : ℕ) (s : State (Option T) (View T)) (r : Ring n s) {words : List ℕ} {homes : List (maybe.Option (Option T))} {views : List (View T)}
+      (lends : Bool) (next : Option T) (pseat cseat : ℕ) → words ≡ s.words → length homes ≡ n → AtHome n r.sent lends r.got next homes
+      → (lends ≡ true → length r.delivered.held < n) → ((x : T) → next ≡ Some x → item_at r.delivered.held 0 ≡ Some x)
+      → Seats pseat r.sent lends cseat r.got next views → HasProducer pseat views → HasConsumer cseat views
+      → Ring n record { words = words; homes = homes; views = views }
+  stays n s r lends next pseat cseat same count home room first seats producing consuming = record {
+    sent = r.sent;
+    got = r.got;
+    lends = lends;
+    next = next;
+    producer = pseat;
+    consumer = cseat;
+    some_slot = r.some_slot;
+    few_slots = r.few_slots;
+    slot_count = count;
+    word_count = ap length same ∙ r.word_count;
+    tail_is = ap (λ (w : List ℕ). get_or w 0 0) same ∙ r.tail_is;
+    head_is = ap (λ (w : List ℕ). get_or w 1 0) same ∙ r.head_is;
+    delivered = r.delivered;
+    at_home = home;
+    room = room;
+    first = first;
+    seats = seats;
+    has_producer = producing;
+    has_consumer = consuming;
+  }
+
   -- the length of what was sent
   pub long : (n : ℕ) (s : State (Option T) (View T)) (r : Ring n s) → length r.sent ≡ length r.got + length r.delivered.held
   long n s r = ap length r.delivered.in_order ∙ length-append r.got r.delivered.held
@@ -76,61 +91,28 @@ module _ {T : Type 0} where
   sees_head n id me mine idle s r wide at small =
       let y : ℕ = get_or s.words 1 0 in let l = long n s r in let me_is = (r.seats id me.0 at).0 mine in let within : length r.delivered.held ≤ n = r.delivered.fits in let few : n ≤ 65536 = r.few_slots in let two : length s.words ≡ 2 = r.word_count in
       let dist : distance (word_of (length me.0.sent)) y ≡ length r.delivered.held = ap₂ (λ (a : List T) (b : ℕ). distance (word_of (length a)) b) me_is.1 r.head_is ∙ distance_is (length r.sent) (length r.got) (length r.delivered.held) l (omega arith) in
-      let tail = get_or-set_other s.words 1 0 y 0 (λ e. omega arith) ∙ r.tail_is in let head = get_or-set_same s.words 1 y 0 (omega arith) ∙ r.head_is in
       dite (ℕ_discrete (length r.delivered.held) n)
       (λ full. (
         seen_head me.0 y false,
         keeps,
         tt,
-        record {
-          sent = r.sent;
-          got = r.got;
-          lends = r.lends;
-          next = r.next;
-          producer = r.producer;
-          consumer = r.consumer;
-          some_slot = r.some_slot;
-          few_slots = r.few_slots;
-          slot_count = r.slot_count;
-          word_count = length-set s.words 1 y ∙ r.word_count;
-          tail_is = tail;
-          head_is = head;
-          delivered = r.delivered;
-          at_home = r.at_home;
-          room = r.room;
-          first = r.first;
-          seats = seats_pushed s.views r.producer r.consumer id r.sent r.sent r.lends r.lends r.got r.next me.0 (seen_head me.0 y false) r.seats at mine me_is.1 (sym idle ∙ me_is.2) refl refl refl;
-          has_producer = keeps_producer s.views r.producer id me.0 (seen_head me.0 y false) at refl r.has_producer;
-          has_consumer = keeps_consumer s.views r.consumer id me.0 (seen_head me.0 y false) at refl r.has_consumer;
-        },
+        stays n s r r.lends r.next r.producer r.consumer (set-get_or s.words 1 0) r.slot_count r.at_home r.room r.first
+            (seats_pushed s.views r.producer r.consumer id r.sent r.sent r.lends r.lends r.got r.next me.0 (seen_head me.0 y false) r.seats at mine me_is.1 (sym idle ∙ me_is.2) refl refl refl)
+            (keeps_part (λ z. z.produces) s.views r.producer id me.0 (seen_head me.0 y false) at refl r.has_producer)
+            (keeps_part (λ z. z.consumes) s.views r.consumer id me.0 (seen_head me.0 y false) at refl r.has_consumer),
         ((λ _. refl), λ ne. absurd (ne (dist ∙ full))),
       ))
       (λ ne. let room : length r.delivered.held < n = lt_of_le_ne (length r.delivered.held) n within ne in let k : ℕ = length me.0.sent % n in let k_is : k ≡ length r.sent % n = ap (λ (a : List T). length a % n) me_is.1 in (
         seen_head me.0 y true,
         takes k None,
         ap (λ (j : ℕ). get_elem? s.homes j) k_is ∙ free n s r (sym me_is.2 ∙ idle) room,
-        record {
-          sent = r.sent;
-          got = r.got;
-          lends = true;
-          next = r.next;
-          producer = r.producer;
-          consumer = r.consumer;
-          some_slot = r.some_slot;
-          few_slots = r.few_slots;
-          slot_count = length-set s.homes k none ∙ r.slot_count;
-          word_count = length-set s.words 1 y ∙ r.word_count;
-          tail_is = tail;
-          head_is = head;
-          delivered = r.delivered;
-          at_home = λ p lo hi not_sent not_next. set_else s.homes k (p % n) none (λ e. not_sent (one_slot (length r.got) n p (length r.sent) lo hi (omega arith) (omega arith) (e ∙ k_is)) refl)
-              ∙ r.at_home p lo hi (λ e _. not_sent e refl) not_next;
-          room = λ _. room;
-          first = r.first;
-          seats = seats_pushed s.views r.producer r.consumer id r.sent r.sent r.lends true r.got r.next me.0 (seen_head me.0 y true) r.seats at mine me_is.1 refl refl refl refl;
-          has_producer = keeps_producer s.views r.producer id me.0 (seen_head me.0 y true) at refl r.has_producer;
-          has_consumer = keeps_consumer s.views r.consumer id me.0 (seen_head me.0 y true) at refl r.has_consumer;
-        },
+        stays n s r true r.next r.producer r.consumer (set-get_or s.words 1 0) (length-set s.homes k none ∙ r.slot_count)
+            (λ p lo hi not_sent not_next. set_else s.homes k (p % n) none (λ e. not_sent (one_slot (length r.got) n p (length r.sent) lo hi (omega arith) (omega arith) (e ∙ k_is)) refl)
+            ∙ r.at_home p lo hi (λ e _. not_sent e refl) not_next)
+            (λ _. room) r.first
+            (seats_pushed s.views r.producer r.consumer id r.sent r.sent r.lends true r.got r.next me.0 (seen_head me.0 y true) r.seats at mine me_is.1 refl refl refl refl)
+            (keeps_part (λ z. z.produces) s.views r.producer id me.0 (seen_head me.0 y true) at refl r.has_producer)
+            (keeps_part (λ z. z.consumes) s.views r.consumer id me.0 (seen_head me.0 y true) at refl r.has_consumer),
         ((λ full. absurd (ne (sym dist ∙ full))), λ _. refl),
       ))
 
@@ -171,8 +153,8 @@ module _ {T : Type 0} where
           room = λ f. absurd (false≢true f);
           first = λ u f. let e = r.first u f in let fr = front r.delivered.held u e in item-append r.delivered.held (x ∷ []) 0 (omega (arith, ap length fr.1)) ∙ e;
           seats = seats_pushed s.views r.producer r.consumer id r.sent sent' r.lends false r.got r.next v w r.seats at mine (ap (λ (a : List T). a ++ x ∷ []) me_is.1) refl refl refl refl;
-          has_producer = keeps_producer s.views r.producer id v w at refl r.has_producer;
-          has_consumer = keeps_consumer s.views r.consumer id v w at refl r.has_consumer;
+          has_producer = keeps_part (λ z. z.produces) s.views r.producer id v w at refl r.has_producer;
+          has_consumer = keeps_part (λ z. z.consumes) s.views r.consumer id v w at refl r.has_consumer;
         },
         refl,
       )

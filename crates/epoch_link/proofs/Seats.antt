@@ -5,11 +5,11 @@ use mathlib.Core.Option.{some, some-injective, some-ne-none}
 use lib.ListN.{get_elem?}
 use Rattle.std.proofs.lemmas.Option.{none-some}
 use Rattle.std.proofs.lemmas.Bool.{false≢true}
-use Rattle.atomic_table.specs.Table.{State, opening, Splits, Joins}
+use Rattle.atomic_table.specs.Table.{opening, Splits, Joins}
 use Rattle.atomic_table.proofs.Lists.{at_set, set_here, set_else, at_longer, at_last}
 use Rattle.epoch_link.specs.declared.ring_link.view.View.{View}
-use Rattle.epoch_link.specs.Ring.{Produces, Consumes, Seats, HasProducer, HasConsumer, Ring, opening_view, producers_part, consumers_part, joined, spent_view}
-use Rattle.epoch_link.proofs.Pushes.{is_there, keeps_producer}
+use Rattle.epoch_link.specs.Ring.{Produces, Consumes, Seats, HasProducer, Ring, opening_view, producers_part, consumers_part, joined, spent_view}
+use Rattle.epoch_link.proofs.Pushes.{is_there, keeps_part, stays}
 
 at_end : {A : Type 0} (l : List A) (a b : A) (j : ℕ) → get_elem? (l ++ a ∷ []) j ≡ some b → (get_elem? l j ≡ some b) ⊎ ((j ≡ length l) × (a ≡ b))
 at_end [] a b zero e = inr (refl, some-injective a b e)
@@ -51,42 +51,17 @@ module _ {T : Type 0} where
     has_consumer = (opening_view, refl, refl);
   }
 
-  -- other seats, under the same rule
-  reseated : (n : ℕ) (s : State (Option T) (View T)) (r : Ring n s) (pseat cseat : ℕ) (views : List (View T)) → Seats pseat r.sent r.lends cseat r.got r.next views
-      → HasProducer pseat views → HasConsumer cseat views → Ring n record { words = s.words; homes = s.homes; views = views }
-  reseated n s r pseat cseat views seats producing consuming = record {
-    sent = r.sent;
-    got = r.got;
-    lends = r.lends;
-    next = r.next;
-    producer = pseat;
-    consumer = cseat;
-    some_slot = r.some_slot;
-    few_slots = r.few_slots;
-    slot_count = r.slot_count;
-    word_count = r.word_count;
-    tail_is = r.tail_is;
-    head_is = r.head_is;
-    delivered = r.delivered;
-    at_home = r.at_home;
-    room = r.room;
-    first = r.first;
-    seats = seats;
-    has_producer = producing;
-    has_consumer = consuming;
-  }
-
   pub splits : (n id : ℕ) (v : View T) → v.produces ≡ true → v.consumes ≡ true → Splits (Ring n) id v (producers_part v) (consumers_part v)
   splits n id v p c s r at = let vs : List (View T) = set s.views id (producers_part v) in let pm = (r.seats id v at).0 p in let cm = (r.seats id v at).1 c in
       let Good : ℕ → View T → Type 0 = λ j z. (z.produces ≡ true → Produces z j r.producer r.sent r.lends) × (z.consumes ≡ true → Consumes z j (length vs) r.got r.next) in
-      reseated n s r r.producer (length vs) (vs ++ consumers_part v ∷ []) (λ j u here. ⊎_elim
+      stays n s r r.lends r.next r.producer (length vs) refl r.slot_count r.at_home r.room r.first (λ j u here. ⊎_elim
       (λ old. ⊎_elim
       (λ t. subst (Good j) t.1 ((λ _. (t.0 ∙ pm.0, pm.1, pm.2)), (λ f. absurd (false≢true f))))
       (λ t. ((λ f. absurd (t.0 (((r.seats j u t.1).0 f).0 ∙ sym pm.0))), (λ f. absurd (t.0 (((r.seats j u t.1).1 f).0 ∙ sym cm.0)))))
       (at_set s.views id j (producers_part v) u old))
       (λ t. subst (Good j) t.1 ((λ f. absurd (false≢true f)), (λ _. (t.0, cm.1, cm.2))))
       (at_end vs (consumers_part v) u j here))
-      (still_produces (keeps_producer s.views r.producer id v (producers_part v) at refl r.has_producer))
+      (still_produces (keeps_part (λ z. z.produces) s.views r.producer id v (producers_part v) at refl r.has_producer))
       (consumers_part v, at_last vs (consumers_part v) (length vs) refl, c)
     where
       still_produces : HasProducer r.producer (set s.views id (producers_part v)) → HasProducer r.producer (set s.views id (producers_part v) ++ consumers_part v ∷ [])
@@ -97,7 +72,7 @@ module _ {T : Type 0} where
       let pm = (r.seats id v at).0 p in let cm = (r.seats other w there).1 c in
       let Good : ℕ → View T → Type 0 = λ j z. (z.produces ≡ true → Produces z j r.producer r.sent r.lends) × (z.consumes ≡ true → Consumes z j id r.got r.next) in
       let both_there : get_elem? (set vs other spent_view) id ≡ some (joined v w) = set_else vs other id spent_view (λ e. two (sym e)) ∙ set_here s.views id (joined v w) (is_there s.views id v at) in
-      reseated n s r r.producer id (set vs other spent_view) (λ j u here. ⊎_elim
+      stays n s r r.lends r.next r.producer id refl r.slot_count r.at_home r.room r.first (λ j u here. ⊎_elim
       (λ t. subst (Good j) t.1 ((λ f. absurd (false≢true f)), (λ f. absurd (false≢true f))))
       (λ o. ⊎_elim
       (λ t. subst (Good j) t.1 ((λ _. (t.0 ∙ pm.0, pm.1, pm.2)), (λ _. (t.0, cm.1, cm.2))))
