@@ -69,8 +69,8 @@ loop-finished-preserved g c =
       shares = omega (arith, i.shares, i.left, shares, ap (λ (l : List W). shares_of l) items, shares_of-push c.loop-finished.pool.items worker, ap (λ (v : V). v.shares) new_is);
     }
 
-pub returns-clause-ready : goal.returns-clause-ready
-returns-clause-ready g c =
+pub returns : goal.returns
+returns g c =
     let W : Type 0 = Worker g.row.T.Denot in
     let capacity = ruled_capacity c.args.queue.now in
     let ready : W → Type 0 = λ w. IsReady g.T.Numbered.words capacity (IsPassOf c.args.queue.now) w in
@@ -80,19 +80,17 @@ returns-clause-ready g c =
     let has_room : HasRoomFor capacity c.in-Some.last =
     (All-pop (HasRoomFor capacity) _ c.pop.new.self.items (Some c.in-Some.last) c.in-Some.ensures.items c.requires.lists).1 in
     let keeps = keeps_none g.T.Numbered.words (view c.loop-finished.pass) c.in-Some.last.items (view c.loop-finished.pass).shares (view c.args.pass).starts i.view_is works has_room.0 in
-    subst (All ready) (sym c.push_reserved-2.ensures.items) (All-push ready c.loop-finished.pool.items own i.ready (record { has_pass = i.pass; keeps = keeps; few = omega (arith, ap (λ (v : WorkerView g.row.T.Denot). length v.starts) i.view_is, c.requires.few); room = has_room.1 }))
-
-pub returns-clause-starts : goal.returns-clause-starts
-returns-clause-starts g c =
     let V : Type 0 = WorkerView g.row.T.Denot in
-    let W : Type 0 = Worker g.row.T.Denot in
-    let i = c.loop-finished.invariant in
-    let own : W = record { pass = c.loop-finished.pass; finished = c.in-Some.last } in
     let known = (view c.args.pass).starts in
-    subst (All (KnowsStarts known)) (sym c.push_reserved-2.ensures.items) (All-push (KnowsStarts known) c.loop-finished.pool.items own i.starts (ap (λ (v : V). v.starts) i.view_is))
-
-pub returns-clause-shares : goal.returns-clause-shares
-returns-clause-shares g c =
-    let W : Type 0 = Worker g.row.T.Denot in
-    let own : W = record { pass = c.loop-finished.pass; finished = c.in-Some.last } in
-    omega (arith, c.loop-finished.invariant.shares, ap (λ (l : List W). shares_of l) c.push_reserved-2.ensures.items, shares_of-push c.loop-finished.pool.items own)
+    record {
+      some = omega (arith, c.push_reserved-2.ensures.len);
+      ready =
+          subst (All ready) (sym c.push_reserved-2.ensures.items)
+          (All-push ready c.loop-finished.pool.items own i.ready
+          (record { has_pass = i.pass; keeps = keeps; few = omega (arith, ap (λ (v : WorkerView g.row.T.Denot). length v.starts) i.view_is, c.requires.few); room = has_room.1 }));
+      starts =
+          subst (All (KnowsStarts known)) (sym c.push_reserved-2.ensures.items)
+          (All-push (KnowsStarts known) c.loop-finished.pool.items own i.starts (ap (λ (v : V). v.starts) i.view_is));
+      shares =
+          omega (arith, i.shares, ap (λ (l : List W). shares_of l) c.push_reserved-2.ensures.items, shares_of-push c.loop-finished.pool.items own);
+    }

@@ -1,14 +1,8 @@
-use Rattle.std.proofs.Common.{◌≡◌, ◌+◌, Some, List, [], ◌∷◌, ◌++◌, All, sym, ap, ◌∙◌, subst}
+use Rattle.std.proofs.Common.{Some, List, All, sym, ◌∙◌, subst}
 use Rattle.crossbeam_queue.specs.Passes.{IsPassOf, ruled_capacity}
-use Rattle.run_board.specs.declared.worker.Worker.{Worker}
-use Rattle.run_board.specs.Workers.{IsReady, KnowsStarts, view_of, shares_of}
+use Rattle.run_board.specs.Workers.{IsReady, KnowsStarts}
 use Rattle.std.proofs.lemmas.List.Elements.{All-pop}
-use Rattle.run_board.proofs.Joining.{shares_of-push}
 use Rattle.run_board.proofs.pool.run_pool.Goals as goal
-
--- the shares of all are those of the others and of the last one
-shares_split : {T : Type 0} (before after rest : List (Worker T)) (last : Worker T) → shares_of after ≡ shares_of before → after ≡ rest ++ last ∷ [] → shares_of rest + (view_of last).shares ≡ shares_of before
-shares_split before after rest last same is = sym (shares_of-push rest last) ∙ sym (ap shares_of is) ∙ same
 
 pub join_all-requires-clause-ready : goal.join_all-requires-clause-ready
 join_all-requires-clause-ready g c κs within =

@@ -45,32 +45,28 @@ turn_once-requires-clause-pass g c κs within =
     let same = c.pop_as.ensures.queue in
     (same.0 ∙ was.0, same.2 ∙ was.1)
 
-pub returns-in-None-pop_as-clause-ready : goal.returns-in-None-pop_as-clause-ready
-returns-in-None-pop_as-clause-ready g c =
+pub returns-in-None-pop_as : goal.returns-in-None-pop_as
+returns-in-None-pop_as g c =
     let V : Type 0 = WorkerView g.row.T.Denot in
     let i = c.loop.invariant.ready in
     let same = c.pop_as.ensures.queue in
     let knows = c.in-None-pop_as.ensures.rule.0 in
-    record {
-      has_pass = (same.0 ∙ i.has_pass.0, same.2 ∙ i.has_pass.1);
-      keeps = subst (λ (v : V). Keeps g.T.Numbered.words v c.loop.worker.finished.items) (sym knows) i.keeps;
-      few = omega (arith, ap (λ (v : V). length v.starts) knows, i.few);
-      room = i.room;
-    }
-
-pub returns-in-None-pop_as-clause-same_worker : goal.returns-in-None-pop_as-clause-same_worker
-returns-in-None-pop_as-clause-same_worker g c =
-    let V : Type 0 = WorkerView g.row.T.Denot in
     let before = c.loop.invariant.same_worker in
-    let knows = c.in-None-pop_as.ensures.rule.0 in
-    record { shares = ap (λ (v : V). v.shares) knows ∙ before.shares; starts = ap (λ (v : V). v.starts) knows ∙ before.starts }
-
-pub returns-in-None-pop_as-clause-has_all : goal.returns-in-None-pop_as-clause-has_all
-returns-in-None-pop_as-clause-has_all g c = λ all weight.
-    let T : Type 0 = g.row.T.Denot in
-    let V : Type 0 = WorkerView T in
-    let knows = c.in-None-pop_as.ensures.rule.0 in
-    let looked = c.in-None-pop_as.ensures.rule.1 in
-    let rest = looked.2 (sym (ap (λ (v : V). v.shares) knows) ∙ all) weight in
-    let none = ap (λ (l : List T). queue_weight g.T.Numbered.words.number weight l) (nil_from_length looked.0 looked.1) in
-    subst (λ (v : V). view_weight weight v ≡ whole_weight (length v.starts) weight) (sym knows) (omega (arith, rest, none))
+    record {
+      ready =
+          record {
+            has_pass = (same.0 ∙ i.has_pass.0, same.2 ∙ i.has_pass.1);
+            keeps = subst (λ (v : V). Keeps g.T.Numbered.words v c.loop.worker.finished.items) (sym knows) i.keeps;
+            few = omega (arith, ap (λ (v : V). length v.starts) knows, i.few);
+            room = i.room;
+          };
+      same_worker = record { shares = ap (λ (v : V). v.shares) knows ∙ before.shares; starts = ap (λ (v : V). v.starts) knows ∙ before.starts };
+      has_all = λ all weight.
+          let T : Type 0 = g.row.T.Denot in
+          let V : Type 0 = WorkerView T in
+          let knows = c.in-None-pop_as.ensures.rule.0 in
+          let looked = c.in-None-pop_as.ensures.rule.1 in
+          let rest = looked.2 (sym (ap (λ (v : V). v.shares) knows) ∙ all) weight in
+          let none = ap (λ (l : List T). queue_weight g.T.Numbered.words.number weight l) (nil_from_length looked.0 looked.1) in
+          subst (λ (v : V). view_weight weight v ≡ whole_weight (length v.starts) weight) (sym knows) (omega (arith, rest, none));
+    }

@@ -19,14 +19,12 @@ answer g c =
     let whole : (h : ℕ → ℕ) → view_weight h (view_of c.turn_until_empty.new.worker) ≡ whole_weight (length handed_in) h = λ h. t.has_all shares h ∙ ap (λ (s : List g.row.T.Denot). whole_weight (length s) h) starts in
     rw (← c.self.view_is) (is_answer g.T.Numbered.words (view_of c.turn_until_empty.new.worker) c.turn_until_empty.new.worker.finished.items c.in_order.result.items handed_in t.ready.keeps whole starts c.self.invariant.0 c.in_order.ensures.permutation c.in_order.ensures.sorted)
 
-pub returns-clause-order : goal.returns-clause-order
-returns-clause-order g c = (answer g c).order
-
-pub returns-clause-ended : goal.returns-clause-ended
-returns-clause-ended g c = (answer g c).are_ended
-
-pub returns-clause-led : goal.returns-clause-led
-returns-clause-led g c = (answer g c).are_led
+pub returns : goal.returns
+returns g c = record {
+  order = (answer g c).order;
+  ended = (answer g c).are_ended;
+  led = (answer g c).are_led;
+}
 
 pub make_pool-pool-requires-clause-filled : goal.make_pool-pool-requires-clause-filled
 make_pool-pool-requires-clause-filled g c κs within =
