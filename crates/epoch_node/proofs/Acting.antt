@@ -44,8 +44,7 @@ module _ {E : Type 0} (end : E → EndView Message) where
   pub same_none : (new old : Option E) → IsEndFrom end new old → is_none (through end new) ≡ is_none (through end old)
   same_none None None h = refl
   same_none (Some n) (Some o) h = refl
-  same_none None (Some o) h = absurd h
-  same_none (Some n) None h = absurd h
+  same_none new old h = absurd h
 
   -- an end that nothing used
   pub same_end : (e : Option E) → IsEndFrom end e e
@@ -82,13 +81,10 @@ unsent_yet false w false e = refl
 -- a pass that is new stands where the definitions begin
 pub begins_state : (s : Option Summary) (first last : Bool) → state (new_back s first last) (fresh_end last) (fresh_end first) ≡ begun (is_none s) last (known s)
 begins_state None true true = refl
-begins_state None true false = refl
 begins_state None false true = refl
-begins_state None false false = refl
 begins_state (Some s) true true = refl
-begins_state (Some s) true false = refl
 begins_state (Some s) false true = refl
-begins_state (Some s) false false = refl
+begins_state s first last = refl
 
 -- what is not over has only part of what is to be sent
 pub begun_asking : (i : CoreSetup) (v : BackView) → IsBegun i v → IsAsking i v (fresh_traffic i.first i.last)

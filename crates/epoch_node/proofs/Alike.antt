@@ -23,8 +23,7 @@ use Rattle.epoch_node.proofs.Acting.{unsent_yet}
 
 pub node_event_is_by_links : NodeEventIsByLinks
 node_event_is_by_links capacity refused previous next e NotBegun = refl
-node_event_is_by_links capacity refused previous next e (Asks a) = refl
-node_event_is_by_links capacity refused previous next e (Answers a f) = refl
+node_event_is_by_links capacity refused previous next e p = refl
 
 -- ---- asking
 
@@ -130,14 +129,11 @@ module _ (i : CoreSetup) (e : EpochSummary) (w : Traffic) (got' sent' : Option (
         subst (λ n. IsIn n (record w { asks_got = got'; asks_sent = sent' }) (Asks (begun (is_none x.back.summary) i.last e))) (sym x.is)
             (begun_alike (is_none x.back.summary) i.last e x.back got' sent' x.begins known),
       )
-  begins_in (Asks a) h x k = absurd h
-  begins_in (Answers a f) h x k = absurd h
+  begins_in p h x k = absurd h
 
   -- an event of the pass backwards
   asks_in : (v : BackView) → IsAsking i v w → (p : Phase) → IsIn (Asking v) w p → AsksOn i v w.asks_got w.asks_sent next got' sent' turn → IsKnown e (Asking v)
       → (links : Links) × IsIn next (record w { asks_got = got'; asks_sent = sent' }) (event_with i.first i.last e links p)
-  asks_in v at NotBegun h x k = absurd h
-  asks_in v at (Answers a f) h x k = absurd h
   asks_in v at (Asks a) h x k =
       (links, subst (λ n. IsIn n later (settled_by b.is_over i.first b)) (sym x.is) (subst (λ o. IsIn (settled_stage x.back.over i x.back) later (settled_by o i.first b)) (sym alike.over) (by x.back.over refl))) where
         later : Traffic
@@ -163,12 +159,11 @@ module _ (i : CoreSetup) (e : EpochSummary) (w : Traffic) (got' sent' : Option (
           },
           settled_alike i.first i.last b x.back (got_by got') w.answers_got w.answers_sent alike.got alike.whole x.requested at.answers_got at.answers_sent,
         )
+  asks_in v at p h x k = absurd h
 
   -- an event of the pass forwards
   answers_in : (f : ForeView) (p : Phase) → IsAnsweringIn f w p → AnswersOn f w.answers_got w.answers_sent next got' sent' turn → IsKnown e (Answering f)
       → (links : Links) × IsIn next (record w { answers_got = got'; answers_sent = sent' }) (event_with i.first i.last e links p)
-  answers_in f NotBegun h x k = absurd h
-  answers_in f (Asks a) h x k = absurd h
   answers_in f (Answers a g) h x k =
       (links, subst (λ n. IsIn n later (Answers a (answering_event e a.asked links g))) (sym x.is) (by x.fore.over)) where
         later : Traffic
@@ -189,12 +184,11 @@ module _ (i : CoreSetup) (e : EpochSummary) (w : Traffic) (got' sent' : Option (
         by : (over : Bool) → IsIn (answered_by over x.fore) later (Answers a (answering_event e a.asked links g))
         by true = (ended, alike)
         by false = (ended, alike)
+  answers_in f p h x k = absurd h
 
 -- nothing more happens to a node that is done
 done_in : (i : CoreSetup) (e : EpochSummary) (f : ForeView) (w later : Traffic) (next : StageView) (p : Phase) → f.over ≡ true → next ≡ Done f → later ≡ w → IsAnsweringIn f w p
     → (links : Links) × IsIn next later (event_with i.first i.last e links p)
-done_in i e f w later next NotBegun o is same h = absurd h
-done_in i e f w later next (Asks a) o is same h = absurd h
 done_in i e f w later next (Answers a g) o is same h =
     let links : Links = record { has_room = true; item = None; is_refused = false } in
     let still : answering_event e a.asked links g ≡ g = ap (λ over. answering_by e a.asked links g over g.is_whole) (h.1.over ∙ o) in (
@@ -202,6 +196,7 @@ done_in i e f w later next (Answers a g) o is same h =
       subst (λ n. IsIn n later (Answers a (answering_event e a.asked links g))) (sym is)
           (subst (λ w. IsAnsweringIn f w (Answers a (answering_event e a.asked links g))) (sym same) (subst (λ g. IsAnsweringIn f w (Answers a g)) (sym still) h)),
     )
+done_in i e f w later next p o is same h = absurd h
 
 events_at : (i : CoreSetup) (s next : StageView) (w : Traffic) (got' sent' : Option (List Message)) (turn : Turn) (e : EpochSummary) (p : Phase) → AtStage i s w
     → Steps i s (got_at s w) (sent_at s w) next got' sent' turn → IsKnown e s → IsKnown e next → IsIn s w p

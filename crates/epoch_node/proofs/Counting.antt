@@ -24,7 +24,7 @@ use Rattle.pass_parts.specs.Known.{known}
 use Rattle.pass_parts.specs.Requests.{locations}
 use Rattle.backward_pass.specs.Backward.{BackView, knows, state, begins, Reached}
 use Rattle.forward_pass.specs.Forward.{ForeView, known_by, fore_state, ForeReached}
-use Rattle.epoch_node.specs.Cores.{CoreSetup, StageView, Fresh, Asking, Answering, Done, Between, CoreView, whole_at}
+use Rattle.epoch_node.specs.Cores.{CoreSetup, StageView, Fresh, Asking, Answering, CoreView, whole_at}
 use Rattle.epoch_node.specs.Keeping.{Traffic, fresh_traffic, HasLinks, IsBegun, IsAsking, requests_if, IsSettled, IsAnswering, AtStage, HasAsked, HasAnswered, MovedAt, Counts, node_by, HasCounted}
 use Rattle.epoch_node.specs.Events.{got_at, sent_at, traffic_after, PhaseTraffic, traffic_at, one_more, BackActs, ForeActs, Acts, Advances}
 use Rattle.epoch_node.proofs.Acting.{unsent_yet}
@@ -141,9 +141,7 @@ pub record MovesOn (i : CoreSetup) (s : StageView) (w : Traffic) (after : StageV
 
 moved_at : (i : CoreSetup) (s next : StageView) (w : Traffic) (on' : PhaseTraffic) → HasLinks i w → is_none on'.got ≡ is_none (got_at s w)
     → AtStage i s w → Acts s (traffic_at s w) next on' pass_turn.Moved → whole_at next ≡ true → MovesOn i s w next (traffic_after s on'.got on'.sent w)
-moved_at i (Fresh t) next w on' l n at x h = absurd (not_over x.2) where
-  not_over : pass_turn.Moved ≡ pass_turn.Over → ⊥
-  not_over e = cc
+moved_at i (Fresh t) next w on' l n at x h = let over : pass_turn.Moved ≡ pass_turn.Over = x.2 in cc
 moved_at i (Asking v) next w on' l n at x h =
     let t = ap whole_at (sym x.is) ∙ h in
     let met = asking_moves_on x.happens.links (state v w.asks_got w.asks_sent) at.running x.happens.could_move.0 x.happens.could_move.1 in
@@ -158,8 +156,7 @@ moved_at i (Answering f) next w on' l n at x h =
       whole = whole_fore i f w at.0 l next on'.got on'.sent pass_turn.Moved x n t;
       more = λ moved m. subst (λ n. MovedAt i n (traffic_after (Answering f) on'.got on'.sent w) (moved + 1)) (sym x.is) (answers_counted i f w at.0 l next on'.got on'.sent pass_turn.Moved x n t met moved m);
     }
-moved_at i (Done f) next w on' l n at x h = absurd x
-moved_at i Between next w on' l n at x h = absurd x
+moved_at i s next w on' l n at x h = absurd x
 
 over_moved_at : (i : CoreSetup) (s next after : StageView) (w : Traffic) (on' : PhaseTraffic) → HasLinks i w → is_none on'.got ≡ is_none (got_at s w)
     → AtStage i s w → Acts s (traffic_at s w) next on' pass_turn.Over → Advances i next after → whole_at after ≡ true → MovesOn i s w after (traffic_after s on'.got on'.sent w)
@@ -192,8 +189,7 @@ over_moved_at i (Answering f) next after w on' l n at x a h =
       whole = whole_fore i f w at.0 l next on'.got on'.sent pass_turn.Over x n t;
       more = λ moved m. subst (λ n. MovedAt i n (traffic_after (Answering f) on'.got on'.sent w) (moved + 1)) (sym y) (answers_counted i f w at.0 l next on'.got on'.sent pass_turn.Over x n t met moved m);
     }
-over_moved_at i (Done f) next after w on' l n at x a h = absurd x
-over_moved_at i Between next after w on' l n at x a h = absurd x
+over_moved_at i s next after w on' l n at x a h = absurd x
 
 -- ---- the count
 
@@ -211,21 +207,15 @@ module _ (c d : CoreView) (same : d.setup ≡ c.setup) (w w' : Traffic) (after :
 
 -- where the event did not happen nothing did
 pub still_at : (s next : StageView) (on on' : PhaseTraffic) → Acts s on next on' pass_turn.NotYet → (next ≡ s) × (on' ≡ on)
-still_at (Fresh t) next on on' x = absurd (not_over x.2) where
-  not_over : pass_turn.NotYet ≡ pass_turn.Over → ⊥
-  not_over e = cc
+still_at (Fresh t) next on on' x = let over : pass_turn.NotYet ≡ pass_turn.Over = x.2 in cc
 still_at (Asking v) next on on' x = (x.is ∙ ap Asking x.not_yet.0, ap₂ (λ g s. record { got = g; sent = s }) x.not_yet.1 x.not_yet.2)
 still_at (Answering f) next on on' x = (x.is ∙ ap Answering x.not_yet.0, ap₂ (λ g s. record { got = g; sent = s }) x.not_yet.1 x.not_yet.2)
-still_at (Done f) next on on' x = absurd x
-still_at Between next on on' x = absurd x
+still_at s next on on' x = absurd x
 
 -- what goes through the links of a phase where nothing more does
 pub traffic_still : (s : StageView) (w : Traffic) → traffic_after s (got_at s w) (sent_at s w) w ≡ w
 traffic_still (Fresh t) w = refl
-traffic_still (Asking v) w = refl
-traffic_still (Answering f) w = refl
-traffic_still (Done f) w = refl
-traffic_still Between w = refl
+traffic_still s w = refl
 
 -- the count after an event in which a pass came to this
 abbrev pub counted_by : PassTurn → ℕ → ℕ

@@ -50,11 +50,9 @@ broken_stays new old led broken = by (whole_at new.core.stage) refl where
 
 -- a core that is done stays as it is
 done_after : (i : CoreSetup) (s next : StageView) (got sent got' sent' : Option (List Message)) (answer : Turn) → Steps i s got sent next got' sent' answer → phase_of s ≡ phase.Done → phase_of next ≡ phase.Done
-done_after i (Fresh t) next got sent got' sent' answer x d = cc
-done_after i (Asking v) next got sent got' sent' answer x d = cc
-done_after i (Answering f) next got sent got' sent' answer x d = cc
 done_after i (Done f) next got sent got' sent' answer x d = ap phase_of x.is
 done_after i Between next got sent got' sent' answer x d = absurd x
+done_after i s next got sent got' sent' answer x d = cc
 
 done_at_last : (old new : Progress) (between : List Progress) → HasEvents old between new → phase_of old.core.stage ≡ phase.Done → phase_of new.core.stage ≡ phase.Done
 done_at_last old new [] h d = ap (λ (p : Progress). phase_of p.core.stage) h ∙ d
@@ -81,12 +79,8 @@ begun_by i Between next got sent got' sent' answer x = absurd x
 -- ---- how many events moved
 
 counted_on : (answer : Turn) (p : Phase) (events : ℕ) → capped events ≤ counted answer p events
-counted_on turn.Moved p events = omega arith
-counted_on turn.NotYet p events = omega arith
 counted_on turn.Done phase.Fresh events = omega arith
-counted_on turn.Done phase.Asking events = omega arith
-counted_on turn.Done phase.Answering events = omega arith
-counted_on turn.Done phase.Done events = omega arith
+counted_on answer p events = omega arith
 
 counts_on : (old new : Progress) (between : List Progress) → HasEvents old between new → capped old.core.events ≤ new.core.events
 counts_on old new [] h = let same : new.core.events ≡ old.core.events = ap (λ (p : Progress). p.core.events) h in omega (arith, same)

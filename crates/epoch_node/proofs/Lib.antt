@@ -1,4 +1,3 @@
-mod Noted
 mod Acting
 mod Counting
 mod Stepping

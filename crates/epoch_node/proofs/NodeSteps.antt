@@ -1,5 +1,5 @@
 -- What an event of the core makes of its node, and what a node has sent.
-use Rattle.std.proofs.Common.{◌≡◌, ◌⊎◌, inl, inr, ◌-◌, List, [], ◌∷◌, refl, ap, sym, subst, subst₂, ◌∙◌, Bool, true, false}
+use Rattle.std.proofs.Common.{◌≡◌, ◌⊎◌, ⊎_elim, ◌-◌, List, [], ◌∷◌, refl, ap, sym, subst, subst₂, ◌∙◌, Bool, true, false}
 use Rattle.std.specs.Prelude.{Option, Some, None, is_none, option_map, IfSome}
 use Rattle.flow_model.specs.declared.Loc.{Loc}
 use Rattle.flow_model.specs.declared.Message.{Message}
@@ -28,8 +28,7 @@ module _ {E : Type 0} (end : E → EndView Message) where
   pub later_end : (new old : Option E) → IsEndFrom end new old → IsMore (through end old) (through end new) → IsEndLater end new old
   later_end None None h m = tt
   later_end (Some n) (Some o) h m = (h.link, m)
-  later_end None (Some o) h m = absurd h
-  later_end (Some n) None h m = absurd h
+  later_end new old h m = absurd h
 
 inlet_same : (c : Option (Consuming Message)) → IsInletLater c c
 inlet_same c = later_refl consumer_end c
@@ -48,12 +47,7 @@ record AreAsks (s : StageView) (w : Traffic) : Type 0 where
 are_asks : (s : StageView) (w : Traffic) → (phase_of s ≡ phase.Fresh) ⊎ (phase_of s ≡ phase.Asking) → AreAsks s w
 are_asks (Fresh t) w h = record { got = refl; sent = refl; traffic = λ g s. refl }
 are_asks (Asking v) w h = record { got = refl; sent = refl; traffic = λ g s. refl }
-are_asks (Answering f) w (inl e) = cc
-are_asks (Answering f) w (inr e) = cc
-are_asks (Done f) w (inl e) = cc
-are_asks (Done f) w (inr e) = cc
-are_asks Between w (inl e) = cc
-are_asks Between w (inr e) = cc
+are_asks s w h = ⊎_elim (λ (e : phase_of s ≡ phase.Fresh). cc) (λ (e : phase_of s ≡ phase.Asking). cc) h
 
 -- these are the links of the answers
 record AreAnswers (s : StageView) (w : Traffic) : Type 0 where
@@ -62,11 +56,8 @@ record AreAnswers (s : StageView) (w : Traffic) : Type 0 where
   traffic : (got sent : Option (List Message)) → traffic_after s got sent w ≡ record w { answers_got = got; answers_sent = sent }
 
 are_answers : (s : StageView) (w : Traffic) → phase_of s ≡ phase.Answering → AreAnswers s w
-are_answers (Fresh t) w e = cc
-are_answers (Asking v) w e = cc
 are_answers (Answering f) w e = record { got = refl; sent = refl; traffic = λ g s. refl }
-are_answers (Done f) w e = cc
-are_answers Between w e = cc
+are_answers s w e = cc
 
 module _ (c d : CoreView) (e : Ends) (inlet : Option (Consuming Message)) (outlet : Option (Producing Message)) (answer : Turn) where
   -- after an event on the links of the asks

@@ -29,31 +29,24 @@ pub record IsOpenTurn (turn : PassTurn) : Type 1 where
   pub not_over : turn ≡ pass_turn.Over → ⊥
 
 pub moved_open : IsOpenTurn pass_turn.Moved
-moved_open = record { running = λ P x. x; not_over = not_over } where
-  not_over : pass_turn.Moved ≡ pass_turn.Over → ⊥
-  not_over e = cc
+moved_open = record { running = λ P x. x; not_over = λ e. cc }
 
 pub not_yet_open : IsOpenTurn pass_turn.NotYet
-not_yet_open = record { running = λ P x. x; not_over = not_over } where
-  not_over : pass_turn.NotYet ≡ pass_turn.Over → ⊥
-  not_over e = cc
+not_yet_open = record { running = λ P x. x; not_over = λ e. cc }
 
 links_at : (i : CoreSetup) (s : StageView) (w : Traffic) (got' sent' : Option (List Message)) → is_none got' ≡ is_none (got_at s w) → is_none sent' ≡ is_none (sent_at s w) → HasLinks i w → HasLinks i (traffic_after s got' sent' w)
 links_at i (Fresh t) w got' sent' g s h = record { asks_got = g ∙ h.asks_got; asks_sent = s ∙ h.asks_sent; answers_got = h.answers_got; answers_sent = h.answers_sent }
 links_at i (Asking v) w got' sent' g s h = record { asks_got = g ∙ h.asks_got; asks_sent = s ∙ h.asks_sent; answers_got = h.answers_got; answers_sent = h.answers_sent }
-links_at i (Answering f) w got' sent' g s h = record { asks_got = h.asks_got; asks_sent = h.asks_sent; answers_got = g ∙ h.answers_got; answers_sent = s ∙ h.answers_sent }
-links_at i (Done f) w got' sent' g s h = record { asks_got = h.asks_got; asks_sent = h.asks_sent; answers_got = g ∙ h.answers_got; answers_sent = s ∙ h.answers_sent }
-links_at i Between w got' sent' g s h = record { asks_got = h.asks_got; asks_sent = h.asks_sent; answers_got = g ∙ h.answers_got; answers_sent = s ∙ h.answers_sent }
+links_at i s w got' sent' g e h = record { asks_got = h.asks_got; asks_sent = h.asks_sent; answers_got = g ∙ h.answers_got; answers_sent = e ∙ h.answers_sent }
 
 open_at : (i : CoreSetup) (s next : StageView) (w : Traffic) (on' : PhaseTraffic) (turn : PassTurn) → IsOpenTurn turn
     → AtStage i s w → Acts s (traffic_at s w) next on' turn → AtStage i next (traffic_after s on'.got on'.sent w)
-open_at i (Fresh t) next w on' turn o at x = absurd (o.not_over x.2)
 open_at i (Asking v) next w on' turn o at x =
     subst (λ n. AtStage i n (traffic_after (Asking v) on'.got on'.sent w)) (sym x.is) (still_asking i v w at next on'.got on'.sent turn x (o.running (x.back.over ≡ false) x.running))
 open_at i (Answering f) next w on' turn o at x =
     subst (λ n. AtStage i n (traffic_after (Answering f) on'.got on'.sent w)) (sym x.is) (still_answering i f w at.0 next on'.got on'.sent turn x, o.running (x.fore.over ≡ false) x.running)
-open_at i (Done f) next w on' turn o at x = absurd x
-open_at i Between next w on' turn o at x = absurd x
+open_at i (Fresh t) next w on' turn o at x = absurd (o.not_over x.2)
+open_at i s next w on' turn o at x = absurd x
 
 over_at : (i : CoreSetup) (s next after : StageView) (w : Traffic) (on' : PhaseTraffic)
     → AtStage i s w → Acts s (traffic_at s w) next on' pass_turn.Over → Advances i next after → AtStage i after (traffic_after s on'.got on'.sent w)
@@ -68,33 +61,28 @@ over_at i (Asking v) next after w on' at x a =
 over_at i (Answering f) next after w on' at x a =
     let y = subst (λ n. Advances i n after) x.is a in
     subst (λ n. AtStage i n (traffic_after (Answering f) on'.got on'.sent w)) (sym y) (still_answering i f w at.0 next on'.got on'.sent pass_turn.Over x, x.over)
-over_at i (Done f) next after w on' at x a = absurd x
-over_at i Between next after w on' at x a = absurd x
+over_at i s next after w on' at x a = absurd x
 
 more_got_at : (i : CoreSetup) (s next : StageView) (w : Traffic) (on' : PhaseTraffic) (turn : PassTurn) → is_none on'.got ≡ is_none (got_at s w)
     → AtStage i s w → Acts s (traffic_at s w) next on' turn → IsMore (got_at s w) on'.got
 more_got_at i (Fresh t) next w on' turn n at x = more_still w.asks_got on'.got (ap (λ (o : PhaseTraffic). o.got) x.1)
 more_got_at i (Asking v) next w on' turn n at x = asks_got_more i v w at next on'.got on'.sent turn x n
 more_got_at i (Answering f) next w on' turn n at x = answers_got_more i f w at.0 next on'.got on'.sent turn x n
-more_got_at i (Done f) next w on' turn n at x = absurd x
-more_got_at i Between next w on' turn n at x = absurd x
+more_got_at i s next w on' turn n at x = absurd x
 
 more_sent_at : (i : CoreSetup) (s next : StageView) (w : Traffic) (on' : PhaseTraffic) (turn : PassTurn) → is_none on'.sent ≡ is_none (sent_at s w)
     → AtStage i s w → Acts s (traffic_at s w) next on' turn → IsMore (sent_at s w) on'.sent
 more_sent_at i (Fresh t) next w on' turn n at x = more_still w.asks_sent on'.sent (ap (λ (o : PhaseTraffic). o.sent) x.1)
 more_sent_at i (Asking v) next w on' turn n at x = asks_sent_more i v w at next on'.got on'.sent turn x n
 more_sent_at i (Answering f) next w on' turn n at x = answers_sent_more i f w at.0 next on'.got on'.sent turn x n
-more_sent_at i (Done f) next w on' turn n at x = absurd x
-more_sent_at i Between next w on' turn n at x = absurd x
+more_sent_at i s next w on' turn n at x = absurd x
 
 -- an event after which the pass goes on
 same_turn : (turn : PassTurn) → (turn ≡ pass_turn.Over → ⊥) → asks_turn turn ≡ answers_turn turn
-same_turn pass_turn.Moved o = refl
-same_turn pass_turn.NotYet o = refl
 same_turn pass_turn.Over o = absurd (o refl)
+same_turn turn o = refl
 
 open_steps : (i : CoreSetup) (s next : StageView) (on on' : PhaseTraffic) (turn : PassTurn) → IsOpenTurn turn → Acts s on next on' turn → Steps i s on.got on.sent next on'.got on'.sent (asks_turn turn)
-open_steps i (Fresh t) next on on' turn o x = absurd (o.not_over x.2)
 open_steps i (Asking v) next on on' turn o x = record {
   back = x.back;
   came_to = turn;
@@ -116,15 +104,14 @@ open_steps i (Answering f) next on on' turn o x = record {
   is = x.is ∙ sym (ap (λ o. answered_by o x.fore) (o.running (x.fore.over ≡ false) x.running));
   answered = same_turn turn o.not_over;
 }
-open_steps i (Done f) next on on' turn o x = absurd x
-open_steps i Between next on on' turn o x = absurd x
+open_steps i (Fresh t) next on on' turn o x = absurd (o.not_over x.2)
+open_steps i s next on on' turn o x = absurd x
 
 open_phase : (s next : StageView) (on on' : PhaseTraffic) (turn : PassTurn) → IsOpenTurn turn → Acts s on next on' turn → phase_of next ≡ phase.Done → ⊥
-open_phase (Fresh t) next on on' turn o x e = absurd (o.not_over x.2)
 open_phase (Asking v) next on on' turn o x e = let asking : phase.Asking ≡ phase.Done = sym (ap phase_of x.is) ∙ e in cc
 open_phase (Answering f) next on on' turn o x e = let answering : phase.Answering ≡ phase.Done = sym (ap phase_of x.is) ∙ e in cc
-open_phase (Done f) next on on' turn o x e = absurd x
-open_phase Between next on on' turn o x e = absurd x
+open_phase (Fresh t) next on on' turn o x e = absurd (o.not_over x.2)
+open_phase s next on on' turn o x e = absurd x
 
 -- what the event in which a phase ends is answered, by the phase after it
 abbrev pub ended_turn : Phase → Turn
@@ -137,31 +124,20 @@ pub ended_last : (p : Phase) → p ≡ phase.Done → ended_turn p ≡ turn.Done
 ended_last p e = ap ended_turn e
 
 pub ended_before : (p : Phase) → (p ≡ phase.Done → ⊥) → ended_turn p ≡ turn.Moved
-ended_before phase.Fresh n = refl
-ended_before phase.Asking n = refl
-ended_before phase.Answering n = refl
 ended_before phase.Done n = absurd (n refl)
+ended_before p n = refl
 
 ended_answers : (p : Phase) → AnswersEnded (ended_turn p) (p ≡ phase.Done)
-ended_answers phase.Fresh = λ e. cc
-ended_answers phase.Asking = λ e. cc
-ended_answers phase.Answering = λ e. cc
 ended_answers phase.Done = refl
+ended_answers p = λ e. cc
 
 ended_moved : (p : Phase) (P : Type 0) → WhenNotYet (ended_turn p) P
 ended_moved phase.Fresh P = tt
-ended_moved phase.Asking P = tt
-ended_moved phase.Answering P = tt
-ended_moved phase.Done P = tt
+ended_moved p P = tt
 
 ended_counted : (p before : Phase) (events : ℕ) → (before ≡ phase.Done → ⊥) → counted (ended_turn p) before events ≡ one_more events
-ended_counted phase.Fresh before events n = refl
-ended_counted phase.Asking before events n = refl
-ended_counted phase.Answering before events n = refl
-ended_counted phase.Done phase.Fresh events n = refl
-ended_counted phase.Done phase.Asking events n = refl
-ended_counted phase.Done phase.Answering events n = refl
 ended_counted phase.Done phase.Done events n = absurd (n refl)
+ended_counted p before events n = refl
 
 -- the event in which a phase ends
 over_steps : (i : CoreSetup) (s next after : StageView) (w : Traffic) (on' : PhaseTraffic)
@@ -201,8 +177,7 @@ over_steps i (Answering f) next after w on' at x a =
       is = y ∙ sym (ap (λ o. answered_by o x.fore) x.over);
       answered = ap (λ n. ended_turn (phase_of n)) y;
     }
-over_steps i (Done f) next after w on' at x a = absurd x
-over_steps i Between next after w on' at x a = absurd x
+over_steps i s next after w on' at x a = absurd x
 
 -- where nothing more went through the links of its phase, a core keeps what it kept
 traffic_same : (s : StageView) (w : Traffic) (got sent : Option (List Message)) → got_at s w ≡ got → sent_at s w ≡ sent → w ≡ traffic_after s got sent w
@@ -250,14 +225,12 @@ module _ (c : CoreView) (next : StageView) (on on' : PhaseTraffic) (came_to : Pa
     by pass_turn.Over x e = tt
 
   open_counted : (came_to : PassTurn) → (came_to ≡ pass_turn.Over → ⊥) → counted (asks_turn came_to) (phase_of c.stage) c.events ≡ counted_by came_to c.events
-  open_counted pass_turn.Moved n = refl
-  open_counted pass_turn.NotYet n = refl
   open_counted pass_turn.Over n = absurd (n refl)
+  open_counted came_to n = refl
 
   open_done : (came_to : PassTurn) → (phase_of d.stage ≡ phase.Done → ⊥) → AnswersEnded (asks_turn came_to) (phase_of d.stage ≡ phase.Done)
   open_done pass_turn.Moved n = n
-  open_done pass_turn.NotYet n = n
-  open_done pass_turn.Over n = n
+  open_done came_to n = n
 
   pub open_event : IsOpenTurn came_to → d.stage ≡ next → d.events ≡ counted_by came_to c.events → IsEvent c on d on' (asks_turn came_to)
   open_event o is e = record {
@@ -304,11 +277,9 @@ rest_event c on ready e = record {
   count = sym (ap (λ p. counted turn.Done p c.events) e);
 } where
   rests : (s : StageView) → phase_of s ≡ phase.Done → AtStage c.setup s ready.traffic → Steps c.setup s on.got on.sent s on.got on.sent turn.Done
-  rests (Fresh t) e at = cc
-  rests (Asking v) e at = cc
-  rests (Answering f) e at = cc
   rests (Done f) e at = record { is = refl; got_same = refl; sent_same = refl; answered = refl }
   rests Between e at = absurd at
+  rests s e at = cc
 
 -- ---- what the parts of an event need
 
@@ -331,5 +302,4 @@ can_advance c next on on' x ready n =
       by (Fresh t) at m x = subst (CanAdvance c.setup) (sym x.0) (at.0, at.1)
       by (Asking v) at m x = subst (CanAdvance c.setup) (sym x.is) (can_settle c.setup v w at next on'.got on'.sent pass_turn.Over x ready.keeps.links.asks_got m)
       by (Answering f) at m x = subst (CanAdvance c.setup) (sym x.is) tt
-      by (Done f) at m x = absurd x
-      by Between at m x = absurd x
+      by s at m x = absurd x

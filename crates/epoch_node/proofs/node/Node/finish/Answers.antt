@@ -5,27 +5,19 @@ use Rattle.epoch_node.specs.Keeping.{HasDone, HasCounted}
 use Rattle.epoch_node.specs.Nodes.{NodeView, traffic_of}
 use Rattle.epoch_node.proofs.node.Node.finish.Goals as goal
 
-pub returns-clause-counted : goal.returns-clause-counted
-returns-clause-counted g c =
+pub returns : goal.returns
+returns g c =
     let r = c.in_ok-sets in
-    subst (λ (v : NodeView). IfOk r.sets (λ rows. HasCounted v.core.setup (traffic_of v.ends) r.asked rows r.events)) c.self.view_is (r.ensures.counted (traffic_of c.self.inside.ends) c.self.invariant)
-
-pub returns-clause-done : goal.returns-clause-done
-returns-clause-done g c =
-    let r = c.in_ok-sets in
-    subst (λ (v : NodeView). IfOk r.sets (λ rows. HasDone v.core.setup (traffic_of v.ends) r.asked rows)) c.self.view_is (r.ensures.done (traffic_of c.self.inside.ends) c.self.invariant)
-
-pub returns-clause-number : goal.returns-clause-number
-returns-clause-number g c = c.number-number.ensures ∙ ap (λ (v : NodeView). v.core.setup.epoch.number) c.self.view_is
-
-pub returns-clause-events : goal.returns-clause-events
-returns-clause-events g c = c.in_ok-sets.ensures.events ∙ ap (λ (v : NodeView). v.core.events) c.self.view_is
-
-pub returns-clause-ends : goal.returns-clause-ends
-returns-clause-ends g c = ap (λ (v : NodeView). v.ends) c.self.view_is
-
-pub returns-clause-asked : goal.returns-clause-asked
-returns-clause-asked g c = c.in_ok-sets.ensures.asked ∙ ap (λ (v : NodeView). asked_at v.core.stage) c.self.view_is
-
-pub returns-clause-whole : goal.returns-clause-whole
-returns-clause-whole g c = c.in_ok-sets.ensures.whole ∙ ap (λ (v : NodeView). whole_at v.core.stage) c.self.view_is
+    record {
+      number = c.number-number.ensures ∙ ap (λ (v : NodeView). v.core.setup.epoch.number) c.self.view_is;
+      events = c.in_ok-sets.ensures.events ∙ ap (λ (v : NodeView). v.core.events) c.self.view_is;
+      ends = ap (λ (v : NodeView). v.ends) c.self.view_is;
+      asked = c.in_ok-sets.ensures.asked ∙ ap (λ (v : NodeView). asked_at v.core.stage) c.self.view_is;
+      whole = c.in_ok-sets.ensures.whole ∙ ap (λ (v : NodeView). whole_at v.core.stage) c.self.view_is;
+      done =
+          subst (λ (v : NodeView). IfOk r.sets (λ rows. HasDone v.core.setup (traffic_of v.ends) r.asked rows)) c.self.view_is
+          (r.ensures.done (traffic_of c.self.inside.ends) c.self.invariant);
+      counted =
+          subst (λ (v : NodeView). IfOk r.sets (λ rows. HasCounted v.core.setup (traffic_of v.ends) r.asked rows r.events)) c.self.view_is
+          (r.ensures.counted (traffic_of c.self.inside.ends) c.self.invariant);
+    }
