@@ -12,9 +12,8 @@ use Rattle.epoch_turns.proofs.Lists.{all_zip_append}
 
 pub nodes_led : (new old : List GroupView) → AllZip IsGroupLedFrom new old → AllZip IsLedFrom (nodes_of new) (nodes_of old)
 nodes_led [] [] h = tt
-nodes_led [] (o ∷ old) h = absurd h
-nodes_led (n ∷ new) [] h = absurd h
 nodes_led (n ∷ new) (o ∷ old) h = all_zip_append IsLedFrom (nodes_of new) (nodes_of old) n.nodes o.nodes (nodes_led new old h.1) h.0.nodes
+nodes_led new old h = absurd h
 
 pub nodes_ended : (groups : List GroupView) → All IsGroupEnded groups → All IsDone (nodes_of groups)
 nodes_ended [] h = All-nil IsDone
@@ -24,9 +23,8 @@ nodes_ended (g ∷ gs) h =
 -- what is led from a node has its number
 pub same_numbers : (new old : List NodeView) → AllZip IsLedFrom new old → map number_of new ≡ map number_of old
 same_numbers [] [] h = refl
-same_numbers [] (o ∷ old) h = absurd h
-same_numbers (n ∷ new) [] h = absurd h
 same_numbers (n ∷ new) (o ∷ old) h = ap₂ (λ (k : ℕ) (ks : List ℕ). k ∷ ks) (ap (λ i. i.epoch.number) h.0.setup) (same_numbers new old h.1)
+same_numbers new old h = absurd h
 
 pub stay_numbered : (new old : List NodeView) → AllZip IsLedFrom new old → AreNumbered number_of old → AreNumbered number_of new
 stay_numbered new old led numbers = same_numbers new old led ∙ numbers ∙ ap (range_with_len 0) (sym (length_all_zip IsLedFrom new old led))
@@ -34,10 +32,9 @@ stay_numbered new old led numbers = same_numbers new old led ∙ numbers ∙ ap 
 -- what is led from a node that is done is done
 pub stay_done : (new old : List NodeView) → AllZip IsLedFrom new old → All IsDone old → All IsDone new
 stay_done [] [] h a = a
-stay_done [] (o ∷ old) h a = absurd h
-stay_done (n ∷ new) [] h a = absurd h
 stay_done (n ∷ new) (o ∷ old) h a =
     All-cons IsDone n new (done_stays n o h.0 (All-head IsDone o old a)) (stay_done new old h.1 (All-tail IsDone o old a))
+stay_done new old h a = absurd h
 
 -- ---- one group more
 

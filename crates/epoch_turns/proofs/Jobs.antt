@@ -16,10 +16,9 @@ IsOf job n = n.core.setup.points.job ≡ job
 
 led_of_job : (job : Job) (new old : List NodeView) → AllZip IsLedFrom new old → AreOfJob job old → AreOfJob job new
 led_of_job job [] [] h a = a
-led_of_job job [] (o ∷ old) h a = absurd h
-led_of_job job (n ∷ new) [] h a = absurd h
 led_of_job job (n ∷ new) (o ∷ old) h a =
     All-cons (IsOf job) n new (ap (λ i. i.points.job) h.0.setup ∙ All-head (IsOf job) o old a) (led_of_job job new old h.1 (All-tail (IsOf job) o old a))
+led_of_job job new old h a = absurd h
 
 pub stays_one_job : (new old : List NodeView) → AllZip IsLedFrom new old → AreOfOneJob old → AreOfOneJob new
 stays_one_job new old led a = (a.0, led_of_job a.0 new old led a.1)

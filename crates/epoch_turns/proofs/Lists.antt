@@ -40,16 +40,14 @@ module _ {X : Type 0} (P : X → Type 0) where
 module _ {X : Type 0} (R : X → X → Type 0) where
   pub all_zip_append : (xs ys vs ws : List X) → AllZip R xs ys → AllZip R vs ws → AllZip R (xs ++ vs) (ys ++ ws)
   all_zip_append [] [] vs ws h k = k
-  all_zip_append [] (y ∷ ys) vs ws h k = absurd h
-  all_zip_append (x ∷ xs) [] vs ws h k = absurd h
   all_zip_append (x ∷ xs) (y ∷ ys) vs ws h k = (h.0, all_zip_append xs ys vs ws h.1 k)
+  all_zip_append xs ys vs ws h k = absurd h
 
   pub all_zip_reverse : (xs ys : List X) → AllZip R xs ys → AllZip R (reverse xs) (reverse ys)
   all_zip_reverse [] [] h = h
-  all_zip_reverse [] (y ∷ ys) h = absurd h
-  all_zip_reverse (x ∷ xs) [] h = absurd h
   all_zip_reverse (x ∷ xs) (y ∷ ys) h =
       subst₂ (AllZip R) (one_before x xs) (one_before y ys) (AllZip-push R (reverse xs) (reverse ys) x y (all_zip_reverse xs ys h.1) h.0)
+  all_zip_reverse xs ys h = absurd h
 
   -- it holds somewhere
   abbrev pub AnyZip : List X → List X → Type 0
@@ -58,27 +56,23 @@ module _ {X : Type 0} (R : X → X → Type 0) where
   AnyZip (x ∷ xs) (y ∷ ys) = R x y ⊎ AnyZip xs ys
 
   pub any_before : (xs ys : List X) (x y : X) → AnyZip xs ys → AnyZip (xs ++ x ∷ []) (ys ++ y ∷ [])
-  any_before [] ys x y h = absurd h
-  any_before (a ∷ xs) [] x y h = absurd h
   any_before (a ∷ xs) (b ∷ ys) x y (inl h) = inl h
   any_before (a ∷ xs) (b ∷ ys) x y (inr h) = inr (any_before xs ys x y h)
+  any_before xs ys x y h = absurd h
 
   pub any_last : (xs ys : List X) (x y : X) → length xs ≡ length ys → R x y → AnyZip (xs ++ x ∷ []) (ys ++ y ∷ [])
   any_last [] [] x y n h = inl h
-  any_last [] (b ∷ ys) x y n h = absurd (omega (arith, n))
-  any_last (a ∷ xs) [] x y n h = absurd (omega (arith, n))
   any_last (a ∷ xs) (b ∷ ys) x y n h = inr (any_last xs ys x y (omega (arith, n)) h)
+  any_last xs ys x y n h = absurd (omega (arith, n))
 
   pub any_reverse : (xs ys : List X) → length xs ≡ length ys → AnyZip xs ys → AnyZip (reverse xs) (reverse ys)
-  any_reverse [] ys n h = absurd h
-  any_reverse (x ∷ xs) [] n h = absurd h
   any_reverse (x ∷ xs) (y ∷ ys) n h = subst₂ AnyZip (one_before x xs) (one_before y ys) (by (any_reverse xs ys (omega (arith, n))) h) where
     by : (AnyZip xs ys → AnyZip (reverse xs) (reverse ys)) → R x y ⊎ AnyZip xs ys → AnyZip (reverse xs ++ x ∷ []) (reverse ys ++ y ∷ [])
     by back (inl h) = let same : length xs ≡ length ys = omega (arith, n) in any_last (reverse xs) (reverse ys) x y (length-reverse xs ∙ same ∙ sym (length-reverse ys)) h
     by back (inr h) = any_before (reverse xs) (reverse ys) x y (back h)
+  any_reverse xs ys n h = absurd h
 
   pub any_in_zip : (xs ys : List X) → AnyZip xs ys → Any (λ (p : X × X). R p.0 p.1) (zip xs ys)
-  any_in_zip [] ys h = absurd h
-  any_in_zip (x ∷ xs) [] h = absurd h
   any_in_zip (x ∷ xs) (y ∷ ys) (inl h) = (0, (x, y), omega arith, refl, h)
   any_in_zip (x ∷ xs) (y ∷ ys) (inr h) = let r = any_in_zip xs ys h in (suc r.0, r.1, omega (arith, r.2), r.3, r.4)
+  any_in_zip xs ys h = absurd h

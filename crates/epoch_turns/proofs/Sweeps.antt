@@ -20,25 +20,19 @@ pub together_ended : (others one : Turn) (ns : List NodeView) (n : NodeView)
     → AnswersEnded others (All IsDone ns) → AnswersEnded one (IsDone n) → AnswersEnded (together others one) (All IsDone (ns ++ n ∷ []))
 together_ended Moved one ns n h k = λ all. h (all_front IsDone ns (n ∷ []) all)
 together_ended NotYet Moved ns n h k = λ all. h (all_front IsDone ns (n ∷ []) all)
-together_ended NotYet NotYet ns n h k = λ all. h (all_front IsDone ns (n ∷ []) all)
-together_ended NotYet Done ns n h k = λ all. h (all_front IsDone ns (n ∷ []) all)
-together_ended Done Moved ns n h k = λ all. k (all_last IsDone ns n all)
-together_ended Done NotYet ns n h k = λ all. k (all_last IsDone ns n all)
 together_ended Done Done ns n h k = All-push IsDone ns n h k
+together_ended Done one ns n h k = λ all. k (all_last IsDone ns n all)
+together_ended others one ns n h k = λ all. h (all_front IsDone ns (n ∷ []) all)
 
 -- the answer of two sweeps says what the second left
 pub both_ended : (first second : Turn) (ended : Type 0) → AnswersEnded second ended → AnswersEnded (after_both first second) ended
 both_ended Moved Moved ended h = h
-both_ended Moved NotYet ended h = h
-both_ended Moved Done ended h = h
-both_ended NotYet second ended h = h
-both_ended Done second ended h = h
+both_ended first second ended h = h
 
 -- whether all are done is the same from the last to the first
 pub ended_reverse : (answer : Turn) (ns : List NodeView) → AnswersEnded answer (All IsDone ns) → AnswersEnded answer (All IsDone (reverse ns))
-ended_reverse Moved ns h = λ all. h (all_back IsDone ns all)
-ended_reverse NotYet ns h = λ all. h (all_back IsDone ns all)
 ended_reverse Done ns h = all_reverse IsDone ns h
+ended_reverse answer ns h = λ all. h (all_back IsDone ns all)
 
 -- ---- turns in which no node moved
 
@@ -57,11 +51,8 @@ together_rested : (others one : Turn) (new old : List NodeView) (n o : NodeView)
     → UnlessMoved (together others one) (AllZip HasRested (new ++ n ∷ []) (old ++ o ∷ []))
 together_rested Moved one new old n o h k = tt
 together_rested NotYet Moved new old n o h k = tt
-together_rested NotYet NotYet new old n o h k = AllZip-push HasRested new old n o h k
-together_rested NotYet Done new old n o h k = AllZip-push HasRested new old n o h k
 together_rested Done Moved new old n o h k = tt
-together_rested Done NotYet new old n o h k = AllZip-push HasRested new old n o h k
-together_rested Done Done new old n o h k = AllZip-push HasRested new old n o h k
+together_rested others one new old n o h k = AllZip-push HasRested new old n o h k
 
 rest_trans : (a b c : NodeView) → HasRested b a → HasRested c b → HasRested c a
 rest_trans a b c f (inl d) = inl d
@@ -71,10 +62,9 @@ rest_trans a b c (inr r) (inr s) = inr (s ∙ r)
 all_rest_trans : (xs ys zs : List NodeView) → AllZip HasRested ys xs → AllZip HasRested zs ys → AllZip HasRested zs xs
 all_rest_trans [] [] [] f g = tt
 all_rest_trans [] [] (z ∷ zs) f g = g
-all_rest_trans [] (y ∷ ys) zs f g = absurd f
-all_rest_trans (x ∷ xs) [] zs f g = absurd f
 all_rest_trans (x ∷ xs) (y ∷ ys) [] f g = g
 all_rest_trans (x ∷ xs) (y ∷ ys) (z ∷ zs) f g = (rest_trans x y z f.0 g.0, all_rest_trans xs ys zs f.1 g.1)
+all_rest_trans xs ys zs f g = absurd f
 
 rest_both : (old between new : List NodeView) → AllZip HasRested between old → AllZip HasRested new (reverse between) → AllZip HasRested (reverse new) old
 rest_both old between new up down =
@@ -85,14 +75,9 @@ rest_both old between new up down =
 pub both_rested : (first second : Turn) (old between new : List NodeView) → UnlessMoved first (AllZip HasRested between old) → UnlessMoved second (AllZip HasRested new (reverse between))
     → WhenNotYet (after_both first second) (AllZip HasRested (reverse new) old)
 both_rested Moved Moved old between new h k = tt
-both_rested Moved NotYet old between new h k = tt
-both_rested Moved Done old between new h k = tt
-both_rested NotYet Moved old between new h k = tt
 both_rested NotYet NotYet old between new h k = rest_both old between new h k
-both_rested NotYet Done old between new h k = tt
-both_rested Done Moved old between new h k = tt
 both_rested Done NotYet old between new h k = rest_both old between new h k
-both_rested Done Done old between new h k = tt
+both_rested first second old between new h k = tt
 
 -- ---- turns in which some node moved
 
@@ -100,25 +85,22 @@ together_moved : (others one : Turn) (new old : List NodeView) (n o : NodeView) 
     → WhenMoved (together others one) (AnyZip HasMoved (new ++ n ∷ []) (old ++ o ∷ []))
 together_moved Moved one new old n o e h k = any_before HasMoved new old n o h
 together_moved NotYet Moved new old n o e h k = any_last HasMoved new old n o e k
-together_moved NotYet NotYet new old n o e h k = tt
-together_moved NotYet Done new old n o e h k = tt
 together_moved Done Moved new old n o e h k = any_last HasMoved new old n o e k
-together_moved Done NotYet new old n o e h k = tt
-together_moved Done Done new old n o e h k = tt
+together_moved others one new old n o e h k = tt
 
 moved_up : (xs ys zs : List NodeView) → AnyZip HasMoved ys xs → AllZip IsLedFrom zs ys → AnyZip HasMoved zs xs
-moved_up xs [] zs m l = absurd m
-moved_up [] (y ∷ ys) zs m l = absurd m
-moved_up (x ∷ xs) (y ∷ ys) [] m l = absurd l
 moved_up (x ∷ xs) (y ∷ ys) (z ∷ zs) (inl m) l = inl (moved_then x y z m l.0)
 moved_up (x ∷ xs) (y ∷ ys) (z ∷ zs) (inr m) l = inr (moved_up xs ys zs m l.1)
+moved_up (x ∷ xs) (y ∷ ys) [] m l = absurd l
+moved_up [] (y ∷ ys) zs m l = absurd m
+moved_up xs [] zs m l = absurd m
 
 moved_down : (xs ys zs : List NodeView) → AllZip IsLedFrom ys xs → AllZip IsLedFrom zs ys → AnyZip HasMoved zs ys → AnyZip HasMoved zs xs
-moved_down xs ys [] k l m = absurd m
-moved_down xs [] (z ∷ zs) k l m = absurd m
-moved_down [] (y ∷ ys) (z ∷ zs) k l m = absurd k
 moved_down (x ∷ xs) (y ∷ ys) (z ∷ zs) k l (inl m) = inl (then_moved x y z k.0 l.0 m)
 moved_down (x ∷ xs) (y ∷ ys) (z ∷ zs) k l (inr m) = inr (moved_down xs ys zs k.1 l.1 m)
+moved_down [] (y ∷ ys) (z ∷ zs) k l m = absurd k
+moved_down xs ys [] k l m = absurd m
+moved_down xs [] (z ∷ zs) k l m = absurd m
 
 -- the nodes after a sweep up, and then one down
 pub led_both : (old between new : List NodeView) → AllZip IsLedFrom between old → AllZip IsLedFrom new (reverse between) → AllZip IsLedFrom (reverse new) old
@@ -142,15 +124,11 @@ both_moved first second old between new up down = by first second where
       any_in_zip HasMoved (reverse new) old (moved_down old between (reverse new) up back later)
 
   by : (first second : Turn) → WhenMoved first (AnyZip HasMoved between old) → WhenMoved second (AnyZip HasMoved new (reverse between)) → WhenMoved (after_both first second) (SomeMoved (reverse new) old)
-  by Moved Moved h k = in_first h
-  by Moved NotYet h k = in_first h
   by Moved Done h k = tt
+  by Moved second h k = in_first h
   by NotYet Moved h k = in_second k
-  by NotYet NotYet h k = tt
-  by NotYet Done h k = tt
   by Done Moved h k = in_second k
-  by Done NotYet h k = tt
-  by Done Done h k = tt
+  by first second h k = tt
 
 -- ---- a sweep over nodes
 

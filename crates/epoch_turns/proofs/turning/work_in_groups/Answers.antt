@@ -28,15 +28,16 @@ work_apart-requires-2-clause-count g c κs within =
     let count = length_all_zip IsLedFrom c.in_ok-done.done.items c.args.nodes.items led in
     (omega (arith, count, c.requires.count.0), omega (arith, count, c.requires.count.1))
 
-pub returns-clause-order : goal.returns-clause-order
-returns-clause-order g c =
+pub returns : goal.returns
+returns g c =
     let before = all_led_trans c.args.nodes.items c.in_ok-begun.begun.items c.in_ok-done.done.items c.in_ok-begun.ensures.led c.in_ok-done.ensures.led in
-    IfOk-weaker c.work_apart-2.result _ _ (λ made led. same_numbers _ _ (all_led_trans c.args.nodes.items c.in_ok-done.done.items made.items before led)) c.work_apart-2.ensures.led
-
-pub returns-clause-ended : goal.returns-clause-ended
-returns-clause-ended g c = IfOk-weaker c.work_apart-2.result _ _ (λ made led. stay_done made.items c.in_ok-done.done.items led c.in_ok-done.ensures.ended) c.work_apart-2.ensures.led
-
-pub returns-clause-led : goal.returns-clause-led
-returns-clause-led g c =
-    let before = all_led_trans c.args.nodes.items c.in_ok-begun.begun.items c.in_ok-done.done.items c.in_ok-begun.ensures.led c.in_ok-done.ensures.led in
-    IfOk-weaker c.work_apart-2.result _ _ (λ made led. all_led_trans c.args.nodes.items c.in_ok-done.done.items made.items before led) c.work_apart-2.ensures.led
+    record {
+      order =
+          IfOk-weaker c.work_apart-2.result _ _ (λ made led. same_numbers _ _ (all_led_trans c.args.nodes.items c.in_ok-done.done.items made.items before led))
+          c.work_apart-2.ensures.led;
+      ended =
+          IfOk-weaker c.work_apart-2.result _ _ (λ made led. stay_done made.items c.in_ok-done.done.items led c.in_ok-done.ensures.ended) c.work_apart-2.ensures.led;
+      led =
+          IfOk-weaker c.work_apart-2.result _ _ (λ made led. all_led_trans c.args.nodes.items c.in_ok-done.done.items made.items before led)
+          c.work_apart-2.ensures.led;
+    }

@@ -58,40 +58,27 @@ invariant_of-self g c =
       led_of_one_job old new _ c.self.invariant.2 (ap (λ (v : GroupView). v.nodes) c.self.view_is) led,
     )
 
-pub returns-clause-led : goal.returns-clause-led
-returns-clause-led g c =
+pub returns : goal.returns
+returns g c =
     let i = c.loop-node-2.invariant in
     let between : List NodeView = c.loop-node.turned.items in
     let new : List NodeView = c.loop-node-2.left.items in
     let none : c.loop-node-2.turned.items ≡ [] = nil_from_length _ (omega (arith, c.in_default-pop.ensures.cases.0, c.loop-node-2.turned.ok.0)) in
-    record {
-      number = ap (λ (v : GroupView). v.number) c.self.view_is;
-      nodes = led_both _ between new i.up (sweep_ends (reverse between) c.loop-node-2.turned.items new c.loop-node-2.down i.sweep none);
-    }
-
-pub returns-clause-done : goal.returns-clause-done
-returns-clause-done g c =
-    let new : List NodeView = c.loop-node-2.left.items in
-    subst (λ (a : Turn). AnswersEnded a (All IsDone (reverse new))) (sym c.after_both.ensures)
-    (both_ended c.loop-node.up c.loop-node-2.down _ (ended_reverse c.loop-node-2.down new c.loop-node-2.invariant.sweep.ended))
-
-pub returns-clause-moved : goal.returns-clause-moved
-returns-clause-moved g c =
-    let i = c.loop-node-2.invariant in
-    let between : List NodeView = c.loop-node.turned.items in
-    let new : List NodeView = c.loop-node-2.left.items in
-    let none : c.loop-node-2.turned.items ≡ [] = nil_from_length _ (omega (arith, c.in_default-pop.ensures.cases.0, c.loop-node-2.turned.ok.0)) in
+    let number = ap (λ (v : GroupView). v.number) c.self.view_is in
     let old : List NodeView = c.args.self.now.nodes in
     let down = sweep_ends (reverse between) c.loop-node-2.turned.items new c.loop-node-2.down i.sweep none in
-    subst (λ (a : Turn). WhenMoved a (SomeMoved (reverse new) old)) (sym c.after_both.ensures)
-    (both_moved c.loop-node.up c.loop-node-2.down old between new i.up down i.up_moved (sweep_moves (reverse between) c.loop-node-2.turned.items new c.loop-node-2.down i.sweep none))
-
-pub returns-clause-not_yet : goal.returns-clause-not_yet
-returns-clause-not_yet g c =
-    let i = c.loop-node-2.invariant in
-    let between : List NodeView = c.loop-node.turned.items in
-    let new : List NodeView = c.loop-node-2.left.items in
-    let none : c.loop-node-2.turned.items ≡ [] = nil_from_length _ (omega (arith, c.in_default-pop.ensures.cases.0, c.loop-node-2.turned.ok.0)) in
-    let old : List NodeView = c.args.self.now.nodes in
-    subst (λ (a : Turn). WhenNotYet a (AllZip HasRested (reverse new) old)) (sym c.after_both.ensures)
-    (both_rested c.loop-node.up c.loop-node-2.down old between new i.up_rested (sweep_rests (reverse between) c.loop-node-2.turned.items new c.loop-node-2.down i.sweep none))
+    record {
+      led = record { number = number; nodes = led_both _ between new i.up down };
+      number = number;
+      done =
+          subst (λ (a : Turn). AnswersEnded a (All IsDone (reverse new))) (sym c.after_both.ensures)
+          (both_ended c.loop-node.up c.loop-node-2.down _ (ended_reverse c.loop-node-2.down new c.loop-node-2.invariant.sweep.ended));
+      moved =
+          subst (λ (a : Turn). WhenMoved a (SomeMoved (reverse new) old)) (sym c.after_both.ensures)
+          (both_moved c.loop-node.up c.loop-node-2.down old between new i.up down i.up_moved
+          (sweep_moves (reverse between) c.loop-node-2.turned.items new c.loop-node-2.down i.sweep none));
+      not_yet =
+          subst (λ (a : Turn). WhenNotYet a (AllZip HasRested (reverse new) old)) (sym c.after_both.ensures)
+          (both_rested c.loop-node.up c.loop-node-2.down old between new i.up_rested
+          (sweep_rests (reverse between) c.loop-node-2.turned.items new c.loop-node-2.down i.sweep none));
+    }
