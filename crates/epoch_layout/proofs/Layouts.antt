@@ -19,10 +19,6 @@ pub at_place : {X : Type 0} (P : X → Type 0) (front : List X) (x : X) (back : 
 at_place P [] x back h = h.0
 at_place P (f ∷ front) x back h = at_place P front x back h.1
 
-pub no_items : {X : Type 0} (xs : List X) → length xs ≡ 0 → xs ≡ []
-no_items [] n = refl
-no_items (x ∷ xs) n = absurd (omega (arith, n))
-
 module _ (capacity : ℕ) (run : CutRun) where
   node_by : CheckpointsAt → NumberedEpoch → Option Before → Option After → NodeView
   node_by points e before after = new_node (record { points = points; query = run.query; epoch = e; first = is_none before; last = is_none after }) (ends_of before after)
@@ -63,16 +59,14 @@ module _ (capacity : ℕ) (run : CutRun) where
   pub push_open : (b : Option Links) (es : List NumberedEpoch) (ls : List Links) (e : NumberedEpoch) (l : Links) → length ls ≡ length es
       → opened b (es ++ e ∷ []) (ls ++ l ∷ []) ≡ opened b es ls ++ node_between capacity run e (last_of b ls) (Some l) ∷ []
   push_open b [] [] e l n = refl
-  push_open b [] (k ∷ ls) e l n = absurd (omega (arith, n))
-  push_open b (d ∷ es) [] e l n = absurd (omega (arith, n))
   push_open b (d ∷ es) (k ∷ ls) e l n = ap (λ ns. node_between capacity run d b (Some k) ∷ ns) (push_open (Some k) es ls e l (omega (arith, n)))
+  push_open b es ls e l n = absurd (omega (arith, n))
 
   pub push_last : (b : Option Links) (es : List NumberedEpoch) (ls : List Links) (e : NumberedEpoch) → length ls ≡ length es
       → laid_out capacity run b (es ++ e ∷ []) ls ≡ opened b es ls ++ node_between capacity run e (last_of b ls) None ∷ []
   push_last b [] [] e n = refl
-  push_last b [] (k ∷ ls) e n = absurd (omega (arith, n))
-  push_last b (d ∷ es) [] e n = absurd (omega (arith, n))
   push_last b (d ∷ es) (k ∷ ls) e n = ap (λ ns. node_between capacity run d b (Some k) ∷ ns) (push_last (Some k) es ls e (omega (arith, n)))
+  push_last b es ls e n = absurd (omega (arith, n))
 
   -- the nodes before the last one, as far as they are made
   pub record IsOpen (all rest : List NumberedEpoch) (last : NumberedEpoch) (nodes : List NodeView) (before : Option Before) : Type 0 where

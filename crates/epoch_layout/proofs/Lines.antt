@@ -18,8 +18,7 @@ module _ {E : Type 0} (end : E → EndView Message) where
   stays : (new old : Option E) → IsEndLater end new old → is_none new ≡ is_none old
   stays None None h = refl
   stays (Some new) (Some old) h = refl
-  stays None (Some old) h = absurd h
-  stays (Some new) None h = absurd h
+  stays new old h = absurd h
 
 stays_inlet : (new old : Option (Consuming Message)) → IsInletLater new old → is_none new ≡ is_none old
 stays_inlet new old h = stays consumer_end new old h
@@ -32,9 +31,9 @@ none_mapped f g None = refl
 none_mapped f g (Some x) = refl
 
 mates : (capacity : ℕ) (l : TableId) (p : Option (Producing Message)) (c : Option (Consuming Message)) → IsOutletLater p (Some (new_producer l capacity)) → IsInletLater c (Some (new_consumer l capacity)) → IsOneLink p c
+mates capacity l (Some p) (Some c) a b = a.0 ∙ sym b.0
 mates capacity l None c a b = absurd a
 mates capacity l (Some p) None a b = absurd b
-mates capacity l (Some p) (Some c) a b = a.0 ∙ sym b.0
 
 -- ---- a line
 
@@ -91,17 +90,15 @@ module _ (run : CutRun) where
 
     line_laid : (b : Option Links) (es : List NumberedEpoch) (ls : List Links) (nodes : List NodeView) → length ls + 1 ≡ length es
         → AllZip IsLedFrom nodes (laid_out capacity run b es ls) → IsLine (is_none b) es nodes
-    line_laid b [] ls nodes c h = absurd (omega (arith, c))
     line_laid b (e ∷ []) [] [] c h = absurd h
     line_laid b (e ∷ []) [] (n ∷ []) c h = (stands e b None n h.0, refl)
     line_laid b (e ∷ []) [] (n ∷ m ∷ ns) c h = absurd h.1
-    line_laid b (e ∷ []) (l ∷ ls) nodes c h = absurd (omega (arith, c))
-    line_laid b (e ∷ f ∷ es) [] nodes c h = absurd (omega (arith, c))
     line_laid b (e ∷ f ∷ es) (l ∷ ls) [] c h = absurd h
     line_laid b (e ∷ f ∷ es) (l ∷ []) (n ∷ []) c h = absurd h.1
     line_laid b (e ∷ f ∷ es) (l ∷ k ∷ ls) (n ∷ []) c h = absurd h.1
     line_laid b (e ∷ f ∷ es) (l ∷ []) (n ∷ m ∷ ns) c h = (stands e b (Some l) n h.0, joined e f b None l n m h.0 h.1.0, line_laid (Some l) (f ∷ es) [] (m ∷ ns) (omega (arith, c)) h.1)
     line_laid b (e ∷ f ∷ es) (l ∷ k ∷ ls) (n ∷ m ∷ ns) c h = (stands e b (Some l) n h.0, joined e f b (Some k) l n m h.0 h.1.0, line_laid (Some l) (f ∷ es) (k ∷ ls) (m ∷ ns) (omega (arith, c)) h.1)
+    line_laid b es ls nodes c h = absurd (omega (arith, c))
 
   pub run_line : (nodes : List NodeView) → IsRunOf run nodes → IsLine true (epochs_of run) nodes
   run_line nodes r =

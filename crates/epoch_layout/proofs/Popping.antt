@@ -1,7 +1,7 @@
 -- One step of `collect`, which takes the nodes from the last to the first.
 use Rattle.std.proofs.Common.{◌≡◌, ℕ, ◌+◌, ◌^◌, ◌-◌, Some, None, List, [], ◌∷◌, ◌++◌, map, length, refl, sym, ap, ◌∙◌, append_assoc, subst, arith, Bool, true, false}
 use Rattle.std.specs.Prelude.{Option, option_map, is_none, All, min}
-use Rattle.std.specs.List.{flat_map}
+use Rattle.std.proofs.lemmas.List.{nil_from_length}
 use Rattle.std.proofs.lemmas.List.Elements.{All-head, All-tail}
 use Rattle.flow_model.specs.declared.Message.{Message}
 use Rattle.report_model.specs.Rows.{Row}
@@ -61,12 +61,7 @@ all_at P [] n ns h = All-head P n ns h
 all_at P (f ∷ front) n ns h = all_at P front n ns (All-tail P f (front ++ n ∷ ns) h)
 
 pub all_done : (all items done : List NodeView) → all ≡ items ++ done → length items ≡ 0 → all ≡ done
-all_done all [] done e z = e
-all_done all (x ∷ items) done e z = absurd (omega (arith, z))
-
-pub flat_mapped : (ds : List DoneNode) → flat_map (λ (rows : List Row). rows) (map (λ (d : DoneNode). d.rows) ds) ≡ flat_map (λ (d : DoneNode). d.rows) ds
-flat_mapped [] = refl
-flat_mapped (d ∷ ds) = ap (λ rows. d.rows ++ rows) (flat_mapped ds)
+all_done all items done e z = e ∙ ap (λ i. i ++ done) (nil_from_length items z)
 
 no_outlet_link : (p : Option (Producing Message)) → is_none p ≡ true → IsOneLink p None
 no_outlet_link None h = tt
@@ -109,8 +104,7 @@ one_more f (d ∷ ds) ask_out answer_in faces c asks answers = (
 delivered : (p : Option (Producing Message)) (c : Option (Consuming Message)) → IsOneLink p c → HasDelivered p c → IsMore (option_map (λ (x : Consuming Message). x.got) c) (option_map (λ (x : Producing Message). x.sent) p)
 delivered None None one d = tt
 delivered (Some p) (Some c) one d = d
-delivered None (Some c) one d = absurd one
-delivered (Some p) None one d = absurd one
+delivered p c one d = absurd one
 
 got_was_sent : (a b : Finished) → AreJoined a.view b.view → HasDelivered b.view.ends.ask_out a.view.ends.ask_in → HasDelivered a.view.ends.answer_out b.view.ends.answer_in → GotWasSent (node_of a) (node_of b)
 got_was_sent a b j asks answers = record {
@@ -135,10 +129,9 @@ placed i f s = record {
 
 pub done_line : (run : CutRun) (first : Bool) (es : List NumberedEpoch) (fs : List Finished) → IsLine run first es (views fs) → AreClosed fs → IsDoneLine run first es (nodes fs)
 done_line run first [] [] line c = tt
-done_line run first [] (f ∷ fs) line c = absurd line
-done_line run first (e ∷ es) [] line c = absurd line
 done_line run first (e ∷ es) (f ∷ []) line c = (placed (setup_at run e first true) f line.0, line.1)
 done_line run first (e ∷ es) (f ∷ g ∷ fs) line c = (placed (setup_at run e first false) f line.0, got_was_sent f g line.1 c.0 c.1, done_line run false es (g ∷ fs) line.2 c.2)
+done_line run first es fs line c = absurd line
 
 -- the count of one node more
 pub capped_more : (events moved sum added total all : ℕ) → events ≡ capped sum → added ≡ moved → total ≡ min (events + added) (2 ^ 64 - 1) → all ≡ moved + sum → total ≡ capped all

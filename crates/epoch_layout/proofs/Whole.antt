@@ -1,13 +1,13 @@
 -- A line of nodes that are done: they are done as the streams say, so they have the rows of the run, and their events are
 -- as many.
-use Rattle.std.proofs.Common.{◌≡◌, ℕ, suc, ◌-◌, Some, None, List, [], ◌∷◌, ◌++◌, map, length, refl, sym, ap, ap₂, ◌∙◌, subst, arith, Bool, true, false}
+use Rattle.std.proofs.Common.{◌≡◌, ℕ, suc, ◌-◌, Some, None, List, [], ◌∷◌, map, length, refl, sym, ap, ap₂, ◌∙◌, subst, arith, Bool, true, false}
 use Rattle.std.specs.Prelude.{Option, is_none}
-use Rattle.std.specs.List.{AllByRecursion, flat_map, sum_by}
+use Rattle.std.specs.List.{AllByRecursion, sum_by}
+use Rattle.std.proofs.lemmas.List.Folds.{flat_map-map}
 use Rattle.std.proofs.lemmas.List.Sums.{sum_by-cons}
 use Rattle.flow_model.specs.declared.Loc.{Loc}
 use Rattle.flow_model.specs.declared.Message.{Message}
 use Rattle.flow_model.specs.declared.Message.TheVariants.{End}
-use Rattle.report_model.specs.Rows.{Row}
 use Rattle.replayer.specs.Jobs.{trace_of}
 use Rattle.sink_collect.specs.Pairs.{capped}
 use Rattle.epoch_model.specs.Cutting.{Epoch, IsCutting, epochs}
@@ -97,8 +97,6 @@ module _ (run : CutRun) where
 
   are_found : (first : Bool) (k s : ℕ) (cs : List ℕ) (ds : List DoneNode) → IsDoneLine run first (numbered k (epochs s cs)) ds → AreFound s cs ds
   are_found first k s [] [] line = record { summaries = tt; in_range = tt }
-  are_found first k s [] (d ∷ ds) line = absurd line
-  are_found first k s (c ∷ cs) [] line = absurd line
   are_found first k s (c ∷ []) (d ∷ []) line =
       let f = found_at (setup_at run (record { number = k; first = s; past_last = c }) first true) d line.0 in
       record { summaries = (f.summary, tt); in_range = (f.in_range, tt) }
@@ -107,6 +105,7 @@ module _ (run : CutRun) where
       let f = found_at (setup_at run (record { number = k; first = s; past_last = c }) first false) d line.0 in
       let rest = are_found false (suc k) c cs (b ∷ ds) line.2 in
       record { summaries = (f.summary, rest.summaries); in_range = (f.in_range, rest.in_range) }
+  are_found first k s cs ds line = absurd line
 
 -- ---- how many events moved
 
@@ -146,18 +145,13 @@ module _ (run : CutRun) where
 crossings_are : (run : CutRun) (first : Bool) (k s : ℕ) (cs : List ℕ) (ds : List DoneNode) → IsDoneLine run first (numbered k (epochs s cs)) ds
     → LinksCarry run.query (trace_of run.job) cs (streams ds) → crossed ds ≡ asked_at run.query (trace_of run.job) cs
 crossings_are run first k s [] [] line l = refl
-crossings_are run first k s [] (d ∷ ds) line l = absurd line
-crossings_are run first k s (c ∷ cs) [] line l = absurd line
 crossings_are run first k s (c ∷ []) (d ∷ []) line l = refl
 crossings_are run first k s (c ∷ b ∷ cs) (d ∷ []) line l = let no : length (numbered (suc k) (epochs c (b ∷ cs))) ≡ 0 = ap length line.1 in absurd (omega (arith, no))
 crossings_are run first k s (c ∷ []) (d ∷ b ∷ []) line l = absurd line.2
 crossings_are run first k s (c ∷ []) (d ∷ b ∷ e ∷ ds) line l = absurd line.2
 crossings_are run first k s (c ∷ e ∷ cs) (d ∷ b ∷ ds) line l =
     ap₂ (λ (x : List Loc) (xs : List (List Loc)). x ∷ xs) l.0.asked (crossings_are run false (suc k) c (e ∷ cs) (b ∷ ds) line.2 l.1)
-
-rows_are : (ds : List DoneNode) → flat_map (λ (d : DoneNode). d.rows) ds ≡ flat_map (λ (n : Node). n.rows) (streams ds)
-rows_are [] = refl
-rows_are (d ∷ ds) = ap (λ (rs : List Row). d.rows ++ rs) (rows_are ds)
+crossings_are run first k s cs ds line l = absurd line
 
 pub done_lines_come : DoneLinesCome
 done_lines_come run ds cutting located line =
@@ -168,7 +162,7 @@ done_lines_come run ds cutting located line =
     let done = all_done run (epochs_of run) ds line in
     let meets = done_nodes_meet run.query trace run.cuts (streams ds) in_range located cut found.summaries done in
     record {
-      rows = rows_are ds ∙ meets.all;
+      rows = sym (flat_map-map (λ (n : Node). n.rows) stream_of ds) ∙ meets.all;
       crossed_are = crossings_are run true 0 0 run.cuts ds line meets.links;
       events = counted_all run true (epochs_of run) ds line
           ∙ ap capped (done_nodes_work run.query trace run.cuts (streams ds) in_range located cut found.summaries done (ends_outside run (epochs_of run) ds line));

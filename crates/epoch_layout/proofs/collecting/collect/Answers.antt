@@ -2,6 +2,7 @@ use Rattle.std.proofs.Common.{List, [], ◌∷◌, ◌++◌, map, drop, reverse,
 use Rattle.std.specs.Prelude.{All}
 use Rattle.std.specs.List.{flat_map, sum_by}
 use Rattle.std.proofs.lemmas.List.{reverse-reverse}
+use Rattle.std.proofs.lemmas.List.Folds.{flat_map-map}
 use Rattle.std.proofs.lemmas.List.Sums.{sum_by-cons}
 use Rattle.std.proofs.lemmas.Grind.{reverse_onto}
 use Rattle.flow_model.specs.declared.Loc.{Loc}
@@ -12,7 +13,7 @@ use Rattle.epoch_layout.specs.Layouts.{epochs_of}
 use Rattle.epoch_layout.specs.DoneLines.{DoneNode}
 use Rattle.epoch_layout.proofs.Lines.{IsLine, run_line, part}
 use Rattle.epoch_layout.proofs.Whole.{done_lines_come}
-use Rattle.epoch_layout.proofs.Popping.{Finished, views, node_of, nodes, popped, all_at, all_done, flat_mapped, links_are, one_more, done_line, capped_more}
+use Rattle.epoch_layout.proofs.Popping.{Finished, views, node_of, nodes, popped, all_at, all_done, links_are, one_more, done_line, capped_more}
 use Rattle.epoch_layout.proofs.collecting.collect.Goals as goal
 
 pub loop-node-init : goal.loop-node-init
@@ -28,33 +29,19 @@ loop-node-init g c =
       events = new.events;
     }
 
-pub take-requires-clause-done : goal.take-requires-clause-done
-take-requires-clause-done g c =
+pub take-requires : goal.take-requires
+take-requires g c =
     let i = c.loop-node.invariant in
     let n = c.in-Some.node in
     let rest = c.pop.new.self.items in
     let e = popped c.args.nodes.items c.loop-node.nodes.items rest (views i.done) n i.split c.in-Some.ensures.items in
-    all_at IsDone rest n (views i.done) (subst (All IsDone) e c.requires.done)
-
-pub take-requires-clause-ask : goal.take-requires-clause-ask
-take-requires-clause-ask g c =
-    let i = c.loop-node.invariant in
-    let n = c.in-Some.node in
-    let rest = c.pop.new.self.items in
     let run = c.requires.led.0 in
-    let e = popped c.args.nodes.items c.loop-node.nodes.items rest (views i.done) n i.split c.in-Some.ensures.items in
     let p = part run _ (epochs_of run) rest (n ∷ views i.done) (subst (IsLine run _ (epochs_of run)) e (run_line run c.args.nodes.items c.requires.led.1)) in
-    (links_are run n i.done c.loop-node.gathering.ask_out c.loop-node.gathering.answer_in p i.faces).0
-
-pub take-requires-clause-answer : goal.take-requires-clause-answer
-take-requires-clause-answer g c =
-    let i = c.loop-node.invariant in
-    let n = c.in-Some.node in
-    let rest = c.pop.new.self.items in
-    let run = c.requires.led.0 in
-    let e = popped c.args.nodes.items c.loop-node.nodes.items rest (views i.done) n i.split c.in-Some.ensures.items in
-    let p = part run _ (epochs_of run) rest (n ∷ views i.done) (subst (IsLine run _ (epochs_of run)) e (run_line run c.args.nodes.items c.requires.led.1)) in
-    (links_are run n i.done c.loop-node.gathering.ask_out c.loop-node.gathering.answer_in p i.faces).1
+    record {
+      done = all_at IsDone rest n (views i.done) (subst (All IsDone) e c.requires.done);
+      ask = (links_are run n i.done c.loop-node.gathering.ask_out c.loop-node.gathering.answer_in p i.faces).0;
+      answer = (links_are run n i.done c.loop-node.gathering.ask_out c.loop-node.gathering.answer_in p i.faces).1;
+    }
 
 pub loop-node-preserved : goal.loop-node-preserved
 loop-node-preserved g c =
@@ -83,7 +70,7 @@ returns g c = λ run r.
       rows = c.in_ok-sets.ensures
           ∙ ap (λ (rs : List (List Row)). flat_map (λ rows. rows) (reverse rs)) i.sets
           ∙ ap (λ (rs : List (List Row)). flat_map (λ rows. rows) rs) (reverse-reverse (map (λ (d : DoneNode). d.rows) (nodes i.done)))
-          ∙ flat_mapped (nodes i.done)
+          ∙ flat_map-map (λ rows. rows) (λ (d : DoneNode). d.rows) (nodes i.done)
           ∙ come.rows;
       crossed = c.back_to_front-crossed.ensures
           ∙ ap (λ (ls : List (List Loc)). drop 1 (reverse ls)) i.asked

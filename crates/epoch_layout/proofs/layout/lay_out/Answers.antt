@@ -1,4 +1,5 @@
 use Rattle.std.proofs.Common.{◌≡◌, Some, None, List, [], ◌∷◌, ◌++◌, length, length-append, append_assoc, ap, ap₂, sym, refl, subst, ◌∙◌, arith}
+use Rattle.std.proofs.lemmas.List.{nil_from_length}
 use Rattle.std.specs.Prelude.{option_map}
 use Rattle.std.specs.List.{AllByRecursion}
 use Rattle.std.specs.Vec.Iter.{into_iter_items}
@@ -9,7 +10,7 @@ use Rattle.epoch_node.specs.Cores.{CanStart}
 use Rattle.epoch_node.specs.Nodes.{NodeView}
 use Rattle.epoch_layout.specs.Layouts.{CutRun, points_of, before_end, laid_out}
 use Rattle.epoch_layout.proofs.Tickets.{all_can_start, some_epoch}
-use Rattle.epoch_layout.proofs.Layouts.{can_start, at_place, no_items, new_between, last_of, last_push, push_open, push_last}
+use Rattle.epoch_layout.proofs.Layouts.{can_start, at_place, new_between, last_of, last_push, push_open, push_last}
 use Rattle.epoch_layout.proofs.layout.lay_out.Goals as goal
 
 pub unreachable-requires : goal.unreachable-requires
@@ -33,7 +34,8 @@ make_node-requires-2-clause-starts g c =
     let i = c.loop-ticket.invariant in
     let e = c.in-Some.last in
     let none : length (into_iter_items c.loop-ticket.ticket-iterator) ≡ 0 = omega (arith, c.in-None.ensures.steps.0, c.loop-ticket.ticket-iterator.rest.ok) in
-    let split = ap (λ (es : List NumberedEpoch). i.done ++ (es ++ e ∷ [])) (sym (no_items (into_iter_items c.loop-ticket.ticket-iterator) none)) ∙ i.split in
+    let split =
+    ap (λ (es : List NumberedEpoch). i.done ++ (es ++ e ∷ [])) (sym (nil_from_length (into_iter_items c.loop-ticket.ticket-iterator) none)) ∙ i.split in
     can_start c.args.checkpoints.now (beginnings c.args.cuts) e c.requires.times
     (at_place (CanStart (points_of run)) i.done e [] (subst (AllByRecursion (CanStart (points_of run))) (sym split) (all_can_start run c.requires.cutting)))
 
@@ -62,7 +64,8 @@ returns g c =
     let i = c.loop-ticket.invariant in
     let e = c.in-Some.last in
     let none : length (into_iter_items c.loop-ticket.ticket-iterator) ≡ 0 = omega (arith, c.in-None.ensures.steps.0, c.loop-ticket.ticket-iterator.rest.ok) in
-    let split = ap (λ (es : List NumberedEpoch). i.done ++ (es ++ e ∷ [])) (sym (no_items (into_iter_items c.loop-ticket.ticket-iterator) none)) ∙ i.split in
+    let split =
+    ap (λ (es : List NumberedEpoch). i.done ++ (es ++ e ∷ [])) (sym (nil_from_length (into_iter_items c.loop-ticket.ticket-iterator) none)) ∙ i.split in
     let node = c.in_ok-make_node-2.ensures ∙ new_between c.args.capacity run c.args.checkpoints.now e c.loop-ticket.before None (last_of None i.links) None refl c.requires.times i.before_is refl in
     record {
       cutting = c.requires.cutting;

@@ -8,11 +8,11 @@ use Rattle.epoch_layout.specs.Lines.{IsOneLink, HasDelivered}
 use Rattle.epoch_layout.specs.declared.collecting.Gathering.{Gathering}
 use Rattle.epoch_layout.proofs.collecting.Gathering.take.Goals as goal
 
-pub close_links-requires-clause-ask : goal.close_links-requires-clause-ask
-close_links-requires-clause-ask g c = subst (λ (x : Ends). IsOneLink c.args.self.now.ask_out x.ask_in) (sym c.in_ok-finished.ensures.ends) c.requires.ask
-
-pub close_links-requires-clause-answer : goal.close_links-requires-clause-answer
-close_links-requires-clause-answer g c = subst (λ (x : Ends). IsOneLink x.answer_out c.args.self.now.answer_in) (sym c.in_ok-finished.ensures.ends) c.requires.answer
+pub close_links-requires : goal.close_links-requires
+close_links-requires g c = record {
+  ask = subst (λ (x : Ends). IsOneLink c.args.self.now.ask_out x.ask_in) (sym c.in_ok-finished.ensures.ends) c.requires.ask;
+  answer = subst (λ (x : Ends). IsOneLink x.answer_out c.args.self.now.answer_in) (sym c.in_ok-finished.ensures.ends) c.requires.answer;
+}
 
 pub returns : goal.returns
 returns g c =
