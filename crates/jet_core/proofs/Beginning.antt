@@ -7,7 +7,7 @@ use Rattle.flow_model.specs.declared.Message.TheVariants.{End}
 use Rattle.epoch_cut.specs.Numbered.{NumberedEpoch}
 use Rattle.run_board.specs.declared.task.Turn.{Turn}
 use Rattle.pass_parts.specs.Ends.{fresh_end}
-use Rattle.epoch_node.specs.Cores.{CoreSetup, StageView, Fresh, Asking, Answering, Done, Between, CoreView, CanStart, new_core}
+use Rattle.epoch_node.specs.Cores.{CoreSetup, StageView, Fresh, CoreView, CanStart, new_core}
 use Rattle.epoch_node.specs.Keeping.{fresh_traffic, HasLinks}
 use Rattle.epoch_node.specs.Events.{Steps}
 use Rattle.epoch_layout.specs.Layouts.{CutRun, points_of, epochs_of, setup_at}
@@ -69,15 +69,13 @@ module _ (p : Plan) where
 
   all_stand : (first : Bool) (es : List NumberedEpoch) (j : Joint) (inner : List Joint) → AllByRecursion (CanStart (points_of p.run)) es → IsFreshToPrevious first j → AllByRecursion (IsNewJoint p.capacity) inner
       → length inner + 1 ≡ length es → AllStand p first es (new_cores p.run first es) (j ∷ (inner ++ no_joint ∷ []))
-  all_stand first [] j inner s b n count = absurd (omega (arith, count))
   all_stand first (e ∷ []) j [] s b n count =
       (new_stands first e true j no_joint s.0 b (record { got = refl; sent = refl; ask = tt; answer = tt }), tt)
-  all_stand first (e ∷ []) j (i ∷ inner) s b n count = absurd (omega (arith, count))
-  all_stand first (e ∷ d ∷ es) j [] s b n count = absurd (omega (arith, count))
   all_stand first (e ∷ d ∷ es) j (i ∷ inner) s b n count = (
     new_stands first e false j i s.0 b (new_to_next p.capacity i n.0),
     all_stand false (d ∷ es) i inner s.1 (new_to_previous p.capacity i n.0) n.1 (omega (arith, count)),
   )
+  all_stand first es j inner s b n count = absurd (omega (arith, count))
 
 new_count : (run : CutRun) (first : Bool) (es : List NumberedEpoch) → length (new_cores run first es) ≡ length es
 new_count run first [] = refl
@@ -105,10 +103,7 @@ IsSilent j = IsNothing (sent_on j.ask) × IsNothing (sent_on j.answer)
 
 abbrev IsFresh : StageView → Type 0
 IsFresh (Fresh t) = Unit {0}
-IsFresh (Asking v) = ⊥
-IsFresh (Answering f) = ⊥
-IsFresh (Done f) = ⊥
-IsFresh Between = ⊥
+IsFresh s = ⊥
 
 -- the cores before this place have begun, and no other
 abbrev BegunTo : ℕ → List CoreView → Type 0
@@ -145,22 +140,17 @@ module _ (c : CoreView) (j i : Joint) (c' : CoreView) (j' i' : Joint) (answer : 
           (subst IsNothing (sym steps.sent_same) a.0, subst IsNothing (sym (ap sent_on x.previous_answer)) a.1),
           (subst IsNothing (sym (inlet_sent i'.ask i.ask x.on.same_inlet)) b.0, subst IsNothing (sym (ap sent_on x.next_answer)) b.1),
         )
-    by (Asking v) e x f = absurd f
-    by (Answering v) e x f = absurd f
-    by (Done v) e x f = absurd f
-    by Between e x f = absurd f
+    by s e x f = absurd f
 
 begin_next : (place : ℕ) (cs : List CoreView) (js : List Joint) (cs' : List CoreView) (js' : List Joint) → BegunTo place cs → AllByRecursion IsSilent js → TurnsAt place cs js cs' js'
     → BegunTo (suc place) cs' × AllByRecursion IsSilent js'
-begin_next place [] js cs' js' b s t = absurd t
-begin_next place (c ∷ cs) [] cs' js' b s t = absurd t
-begin_next place (c ∷ cs) (j ∷ []) cs' js' b s t = absurd t
 begin_next zero (c ∷ cs) (j ∷ i ∷ js) cs' js' b s t =
     let r = begins c j i t.core t.previous t.next t.answer t.turns b.0 s.0 s.1.0 in
     (subst (BegunTo 1) (sym t.cores_are) (r.0, b.1), subst (AllByRecursion IsSilent) (sym t.joints_are) (r.1, (r.2, s.1.1)))
 begin_next (suc place) (c ∷ cs) (j ∷ i ∷ js) cs' js' b s t =
     let r = begin_next place cs (i ∷ js) t.cores t.joints b.1 s.1 t.later in
     (subst (BegunTo (suc (suc place))) (sym t.cores_are) (b.0, r.0), subst (AllByRecursion IsSilent) (sym t.joints_are) (s.0, r.1))
+begin_next place cs js cs' js' b s t = absurd t
 
 pub begins_at : (place : ℕ) (cs : List CoreView) (js : List Joint) (cs' : List CoreView) (js' : List Joint) → IsBeginning place cs js → TurnsAt place cs js cs' js' → IsBeginning (suc place) cs' js'
 begins_at place cs js cs' js' b t = let r = begin_next place cs js cs' js' b.begun b.silent t in record { begun = r.0; silent = r.1 }
@@ -172,9 +162,6 @@ nothing_part all (Some sent) n = inl (all, ap (λ (xs : List Message). xs ++ all
 
 begun_parts : (p : Plan) (first : Bool) (es : List NumberedEpoch) (answered : List Message) (cs : List CoreView) (js : List Joint) → AllStand p first es cs js → BegunTo (length cs) cs → AllByRecursion IsSilent js → AllSendPart first answered cs js
 begun_parts p first es answered [] js s b n = tt
-begun_parts p first [] answered (c ∷ cs) js s b n = absurd s
-begun_parts p first (e ∷ es) answered (c ∷ cs) [] s b n = absurd s
-begun_parts p first (e ∷ es) answered (c ∷ cs) (j ∷ []) s b n = absurd s
 begun_parts p first (e ∷ es) answered (c ∷ cs) (j ∷ i ∷ js) s b n = (
   record {
     begun = b.0;
@@ -183,6 +170,7 @@ begun_parts p first (e ∷ es) answered (c ∷ cs) (j ∷ i ∷ js) s b n = (
   },
   begun_parts p false es _ cs (i ∷ js) s.1 b.1 n.1,
 )
+begun_parts p first es answered cs js s b n = absurd s
 
 pub all_begun : (p : Plan) (cs : List CoreView) (js : List Joint) → IsLineOf p cs js → IsBeginning (length cs) cs js → AreParts cs js
 all_begun p cs js h b = begun_parts p true (epochs_of p.run) (End true ∷ []) cs js h.stand b.begun b.silent

@@ -1,6 +1,6 @@
 -- The rows of one epoch more, and the cuts that are left.
 use Rattle.std.proofs.Common.{◌≡◌, ℕ, ◌+◌, add-one, ◌<◌, List, [], ◌∷◌, ◌++◌, map, drop, length, get_or, refl, ap, ap₂, sym, ◌∙◌, arith, append_assoc}
-use Rattle.std.proofs.lemmas.List.{length-append}
+use Rattle.std.proofs.lemmas.List.{length-append, same_from_push}
 use Rattle.flow_model.specs.declared.Loc.{Loc}
 use Rattle.flow_model.specs.declared.SourceByte.{SourceByte}
 use Rattle.report_model.specs.Rows.{Row}
@@ -12,26 +12,12 @@ use Rattle.jet_core.proofs.Back.{drop_at}
 
 -- ---- the next cut
 
-same_end : {X : Type 0} (xs ys : List X) (x y : X) → xs ++ x ∷ [] ≡ ys ++ y ∷ [] → (xs ≡ ys) × (x ≡ y)
-same_end [] [] x y e = (refl, cc)
-same_end [] (z ∷ zs) x y e =
-    let n : length ([] ++ x ∷ []) ≡ length ((z ∷ zs) ++ y ∷ []) = ap length e in
-    absurd (omega (arith, n, length-append zs (y ∷ [])))
-same_end (z ∷ zs) [] x y e =
-    let n : length ((z ∷ zs) ++ x ∷ []) ≡ length ([] ++ y ∷ []) = ap length e in
-    absurd (omega (arith, n, length-append zs (x ∷ [])))
-same_end (z ∷ zs) (w ∷ ws) x y e =
-    let first : z ≡ w = cc in
-    let rest : zs ++ x ∷ [] ≡ ws ++ y ∷ [] = cc in
-    let ends = same_end zs ws x y rest in
-    (ap₂ (λ k ks. k ∷ ks) first ends.0, ends.1)
-
 pub next_some : (es : List Summary) (cuts : List (List Loc)) (next : List Loc) (later : List (List Loc)) → cuts ≡ later ++ next ∷ [] → cuts ≡ asked_back es
     → (next ≡ crossing es) × (later ≡ crossings_back es)
 next_some [] cuts next [] e f = cc
 next_some [] cuts next (l ∷ ls) e f = cc
 next_some (e ∷ es) cuts next later last is =
-    let ends = same_end later (asked_back es) next (crossing (e ∷ es)) (sym last ∙ is) in
+    let ends = same_from_push later (asked_back es) next (crossing (e ∷ es)) (sym last ∙ is) in
     (ends.1, ends.0)
 
 pub next_none : (es : List Summary) (cuts : List (List Loc)) → length cuts ≡ 0 → cuts ≡ asked_back es → ([] ≡ crossing es) × (cuts ≡ crossings_back es)

@@ -5,9 +5,8 @@ use Rattle.jet_core.specs.Lines.{IsCoreDone, AreDone}
 
 -- so many of them are done
 abbrev pub DoneTo : ℕ → List CoreView → Type 0
-DoneTo zero cs = Unit {0}
-DoneTo (suc n) [] = Unit {0}
 DoneTo (suc n) (c ∷ cs) = IsCoreDone c × DoneTo n cs
+DoneTo n cs = Unit {0}
 
 pub done_next : (n : ℕ) (cs : List CoreView) (c : CoreView) → DoneTo n cs → get_or cs n c ≡ c → IsCoreDone c → DoneTo (suc n) cs
 done_next n [] c d e h = tt

@@ -3,7 +3,7 @@ use Rattle.std.proofs.Common.{◌≡◌, ◌⊎◌, inl, inr, ℕ, ◌+◌, ◌-
 use Rattle.std.specs.Prelude.{Option, Some, None, is_none, IsSome}
 use Rattle.lists.proofs.Tests.{true-false}
 use Rattle.flow_model.specs.declared.Message.{Message}
-use Rattle.flow_model.specs.declared.Message.TheVariants.{Ask, Byte, Close, End}
+use Rattle.flow_model.specs.declared.Message.TheVariants.{End}
 use Rattle.epoch_model.specs.Summary.{Summary}
 use Rattle.run_board.specs.declared.task.Turn.{Turn}
 use Rattle.run_board.specs.declared.task.Turn.TheVariants.{NotYet}
@@ -50,10 +50,8 @@ shorter got got' next (inr g) = let n = prefix_length got got' (g.0 ∷ [], sym 
 
 few_requests : (ms : List Message) → length (requests ms) ≤ length ms
 few_requests [] = omega arith
-few_requests (Ask l ∷ ms) = let n = few_requests ms in omega (arith, n)
-few_requests (Byte b ∷ ms) = let n = few_requests ms in omega (arith, n)
-few_requests (Close l ∷ ms) = let n = few_requests ms in omega (arith, n)
 few_requests (End whole ∷ ms) = omega arith
+few_requests (m ∷ ms) = let n = few_requests ms in omega (arith, n)
 
 same_long : (o o' whole whole' : Bool) (sent : Option (List Message)) → o ≡ o' → length (sent_by o whole sent) ≡ length (sent_by o' whole' sent)
 same_long true true whole whole' None e = refl

@@ -1,6 +1,7 @@
 -- Rounds of a line.
 use Rattle.std.proofs.Common.{◌≡◌, ◌⊎◌, inl, inr, ℕ, zero, suc, ◌<◌, ◌≤◌, List, [], ◌∷◌, length, refl, ap, sym, ◌∙◌, Bool, true, false, arith}
 use Rattle.std.specs.Prelude.{Option, Some, None, is_none}
+use Rattle.std.proofs.lemmas.Bool.{cases_lt}
 use Rattle.lists.proofs.Tests.{true-false}
 use Rattle.flow_model.specs.declared.Message.TheVariants.{End}
 use Rattle.epoch_cut.specs.Numbered.{NumberedEpoch}
@@ -33,21 +34,16 @@ line_on p place cs js cs' js' h t = record {
 
 -- before the first core there are no links
 comes_first : (p : Plan) (es : List NumberedEpoch) (cs : List CoreView) (js : List Joint) → AllStand p true es cs js → ComesBefore p.capacity true None js
-comes_first p [] [] [] s = absurd s
 comes_first p [] [] (j ∷ js) s = refl
-comes_first p [] (c ∷ cs) js s = absurd s
-comes_first p (e ∷ es) [] js s = absurd s
-comes_first p (e ∷ es) (c ∷ cs) [] s = absurd s
 comes_first p (e ∷ es) (c ∷ cs) (j ∷ js) s = refl
+comes_first p es cs js s = absurd s
 
 answered_first : (p : Plan) (es : List NumberedEpoch) (c : CoreView) (cs : List CoreView) (js : List Joint) → AllStand p true es (c ∷ cs) js → IsAnswered (End true ∷ []) js
-answered_first p [] c cs js s = absurd s
-answered_first p (e ∷ es) c cs [] s = absurd s
-answered_first p (e ∷ es) c cs (j ∷ []) s = absurd s
 answered_first p (e ∷ es) c cs (j ∷ i ∷ js) s = by j.answer (s.0.keeps.links.answers_got ∙ ap (λ (g : CoreSetup). g.first) s.0.setup) where
   by : (link : Link) → is_none (got_on link) ≡ true → IsSource (End true ∷ []) (sent_on link)
   by None n = refl
   by (Some l) n = true-false (sym n)
+answered_first p es c cs js s = absurd s
 
 pub parts_on : (p : Plan) (place : ℕ) (cs : List CoreView) (js : List Joint) (cs' : List CoreView) (js' : List Joint) → IsLineOf p cs js → AreParts cs js → TurnsAt place cs js cs' js'
     → LineTurned p.capacity place true (End true ∷ []) None cs js cs' js'
@@ -75,19 +71,12 @@ pub round_on : (p : Plan) (place : ℕ) (cs : List CoreView) (js : List Joint) (
 round_on p place cs js cs' js' cs'' js'' h r t = let l = parts_on p place cs' js' cs'' js'' h r.parts t in record { parts = l.parts; less = by r.less l.progress } where
   next : (states cs' js' ≡ states cs js) → ((k : ℕ) → k < place → moves_at p.capacity k None (states cs js) ≡ false) → moves_at p.capacity place None (states cs' js') ≡ false
       → (k : ℕ) → k < suc place → moves_at p.capacity k None (states cs js) ≡ false
-  next same none here k b = on (either k place b) where
-    either : (k n : ℕ) → k < suc n → (k < n) ⊎ (k ≡ n)
-    either zero zero b = inr refl
-    either zero (suc n) b = inl (omega arith)
-    either (suc k) zero b = absurd (omega (arith, b))
-    either (suc k) (suc n) b = up (either k n (omega (arith, b))) where
-      up : (k < n) ⊎ (k ≡ n) → (suc k < suc n) ⊎ (suc k ≡ suc n)
-      up (inl h) = inl (omega (arith, h))
-      up (inr e) = inr (ap suc e)
-
-    on : (k < place) ⊎ (k ≡ place) → moves_at p.capacity k None (states cs js) ≡ false
+  next same none here k b = on (cases_lt k place) where
+    on : (k < place) ⊎ (place ≤ k) → moves_at p.capacity k None (states cs js) ≡ false
     on (inl less) = none k less
-    on (inr e) = ap (λ k. moves_at p.capacity k None (states cs js)) e ∙ ap (moves_at p.capacity place None) (sym same) ∙ here
+    on (inr past) =
+        let e : k ≡ place = omega (arith, past, b) in
+        ap (λ k. moves_at p.capacity k None (states cs js)) e ∙ ap (moves_at p.capacity place None) (sym same) ∙ here
 
   by : IsLess p.capacity place cs js cs' js' → (work_left cs'' js'' < work_left cs' js') ⊎ ((states cs'' js'' ≡ states cs' js') × (moves_at p.capacity place None (states cs' js') ≡ false))
       → IsLess p.capacity (suc place) cs js cs'' js''
@@ -106,10 +95,8 @@ beyond capacity (suc k) previous (n ∷ ns) h = beyond capacity k (Some n.phase)
 
 states_count : (p : Plan) (first : Bool) (es : List NumberedEpoch) (cs : List CoreView) (js : List Joint) → AllStand p first es cs js → length (states cs js) ≡ length cs
 states_count p first es [] js s = refl
-states_count p first [] (c ∷ cs) js s = absurd s
-states_count p first (e ∷ es) (c ∷ cs) [] s = absurd s
-states_count p first (e ∷ es) (c ∷ cs) (j ∷ []) s = absurd s
 states_count p first (e ∷ es) (c ∷ cs) (j ∷ i ∷ js) s = ap suc (states_count p false es cs (i ∷ js) s.1)
+states_count p first es cs js s = absurd s
 
 done_core : (g : CoreSetup) (j i : Joint) (s : StageView) → AtStage g s (traffic_between j i) → is_done (phase_in s (traffic_between j i)) ≡ true → phase_of s ≡ phase.Done
 done_core g j i (Fresh t) at d = true-false (sym d)
@@ -120,24 +107,14 @@ done_core g j i Between at d = absurd at
 
 done_cores : (p : Plan) (first : Bool) (es : List NumberedEpoch) (cs : List CoreView) (js : List Joint) → AllStand p first es cs js → AllDone (states cs js) → AreDone cs
 done_cores p first es [] js s d = tt
-done_cores p first [] (c ∷ cs) js s d = absurd s
-done_cores p first (e ∷ es) (c ∷ cs) [] s d = absurd s
-done_cores p first (e ∷ es) (c ∷ cs) (j ∷ []) s d = absurd s
 done_cores p first (e ∷ es) (c ∷ cs) (j ∷ i ∷ js) s d = (done_core c.setup j i c.stage s.0.keeps.stage d.0, done_cores p false es cs (i ∷ js) s.1 d.1)
+done_cores p first es cs js s d = absurd s
 
 -- while not all are done, less is left
 pub round_less : (p : Plan) (cs : List CoreView) (js : List Joint) (cs' : List CoreView) (js' : List Joint) → IsLineOf p cs js → RoundTo p (length cs) cs js cs' js' → (AreDone cs → ⊥) → work_left cs' js' < work_left cs js
 round_less p cs js cs' js' h r not_done = by r.less where
   none_moves : ((k : ℕ) → k < length cs → moves_at p.capacity k None (states cs js) ≡ false) → Moves p.capacity None (states cs js) → ⊥
-  none_moves none m = on (less_or m.0 (length cs)) where
-    less_or : (k n : ℕ) → (k < n) ⊎ (n ≤ k)
-    less_or k zero = inr (omega arith)
-    less_or zero (suc n) = inl (omega arith)
-    less_or (suc k) (suc n) = up (less_or k n) where
-      up : (k < n) ⊎ (n ≤ k) → (suc k < suc n) ⊎ (suc n ≤ suc k)
-      up (inl h) = inl (omega (arith, h))
-      up (inr h) = inr (omega (arith, h))
-
+  none_moves none m = on (cases_lt m.0 (length cs)) where
     on : (m.0 < length cs) ⊎ (length cs ≤ m.0) → ⊥
     on (inl less) = true-false (sym m.1 ∙ none m.0 less)
     on (inr far) = let count = states_count p true (epochs_of p.run) cs js h.stand in true-false (sym m.1 ∙ beyond p.capacity m.0 None (states cs js) (omega (arith, far, count)))

@@ -12,7 +12,6 @@ mod Nodes
 mod Doing
 mod More
 mod Back
-mod Each
 mod Cuts
 mod Tickets
 mod Together

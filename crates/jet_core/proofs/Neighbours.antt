@@ -10,7 +10,7 @@ use Rattle.epoch_link.specs.ListLink.{BothEnds, held_count}
 use Rattle.stream_model.specs.Streams.{is_ended}
 use Rattle.stream_model.specs.StreamLaws.{IsPrefix}
 use Rattle.stream_model.specs.Passes.{Links}
-use Rattle.stream_model.specs.Schedules.{Phase, Need, Room, Item, Nothing, Over, is_met, asks_sent_in, asks_got_in, answers_sent_in, answers_got_in, first_of, next_item, has_room_for, room_to, item_from, phase_of_first}
+use Rattle.stream_model.specs.Schedules.{Phase, Need, Room, Item, is_met, asks_sent_in, asks_got_in, answers_sent_in, answers_got_in, first_of, next_item, has_room_for, room_to, item_from, phase_of_first}
 use Rattle.stream_model.proofs.Moving.{PhaseHolds, LinkHolds, FirstHolds, LastHolds, PreviousHolds, NodesHold}
 use Rattle.pass_parts.specs.Ends.{got_by, sent_by, fresh_end}
 use Rattle.pass_parts.specs.Turns.{Waits}
@@ -76,27 +76,21 @@ module _ (g : CoreSetup) (j i : Joint) where
   pub phase_holds : (s : StageView) → AtStage g s (traffic_between j i) → HasSettled s (traffic_between j i) → PhaseHolds (phase_in s (traffic_between j i))
   phase_holds (Fresh t) at h = tt
   phase_holds (Asking v) at h = (at.running, at.unended)
-  phase_holds (Answering f) at h = (h.1, h.0, record { running = at.0.unended; over = at.0.ended })
-  phase_holds (Done f) at h = (h.1, h.0, record { running = at.0.unended; over = at.0.ended })
   phase_holds Between at h = absurd h
+  phase_holds s at h = (h.1, h.0, record { running = at.0.unended; over = at.0.ended })
 
   no_got : (link : Link) → is_none (got_on link) ≡ true → is_ended (got_by (got_on link)) ≡ true
   no_got None n = refl
   no_got (Some l) n = true-false (sym n)
 
   pub first_holds : (s : StageView) → is_none (got_on j.answer) ≡ true → FirstHolds (phase_in s (traffic_between j i))
-  first_holds (Fresh t) n = tt
-  first_holds (Asking v) n = tt
   first_holds (Answering f) n = no_got j.answer n
   first_holds (Done f) n = no_got j.answer n
-  first_holds Between n = tt
+  first_holds s n = tt
 
   pub last_holds : (s : StageView) → is_none (got_on i.ask) ≡ true → LastHolds (phase_in s (traffic_between j i))
-  last_holds (Fresh t) n = tt
   last_holds (Asking v) n = no_got i.ask n
-  last_holds (Answering f) n = tt
-  last_holds (Done f) n = tt
-  last_holds Between n = tt
+  last_holds s n = tt
 
 -- ---- between neighbours
 
@@ -159,15 +153,12 @@ module _ (p : Plan) where
       → NodesHold previous (states cs js)
   nodes_hold first None [] [] js s b d = tt
   nodes_hold first (Some q) [] [] js s b d = d
-  nodes_hold first previous [] (c ∷ cs) js s b d = absurd s
-  nodes_hold first previous (e ∷ es) [] js s b d = absurd s
-  nodes_hold first previous (e ∷ es) (c ∷ cs) [] s b d = absurd s
-  nodes_hold first previous (e ∷ es) (c ∷ cs) (j ∷ []) s b d = absurd s
   nodes_hold first previous (e ∷ es) (c ∷ cs) (j ∷ i ∷ js) s b d = (
     phase_holds c.setup j i c.stage s.0.keeps.stage s.0.settled,
     previous_holds first (is_last es) previous e c j i (i ∷ js) b s.0,
     nodes_hold false (Some (phase_in c.stage (traffic_between j i))) es cs (i ∷ js) s.1 (next_before first e es c j i js s.0) (next_ends first e es c j i s.0),
   )
+  nodes_hold first previous es cs js s b d = absurd s
 
 -- ---- a link that refused
 
@@ -208,21 +199,17 @@ module _ (capacity : ℕ) where
   -- what the links of a core refuse is what they lack in the definitions
   pub room_lacks : (link link' : Link) (over whole : Bool) (got : Phase → List Message) (to : Option Phase) → IsPushRefused link link'
       → ((l : BothEnds Message) → link ≡ Some l → IsOther capacity true got to l) → room_to capacity got (sent_by over whole (sent_on link)) to ≡ false
-  room_lacks None None over whole got to r m = absurd r
-  room_lacks None (Some l') over whole got to r m = absurd r
-  room_lacks (Some l) None over whole got to r m = absurd r
   room_lacks (Some l) (Some l') over whole got to r m =
       let q = m l refl in
       ap (room_to capacity got l.sent) q.is ∙ no_room l capacity (got q.phase) l.sent q.of_link.0 q.of_link.1 q.list_is refl r.not_ready
+  room_lacks link link' over whole got to r m = absurd r
 
   pub item_lacks : (link link' : Link) (sent : Phase → List Message) (from : Option Phase) → IsPopRefused link link'
       → ((l : BothEnds Message) → link ≡ Some l → IsOther capacity false sent from l) → is_some (item_from sent (got_by (got_on link)) from) ≡ false
-  item_lacks None None sent from r m = absurd r
-  item_lacks None (Some l') sent from r m = absurd r
-  item_lacks (Some l) None sent from r m = absurd r
   item_lacks (Some l) (Some l') sent from r m =
       let q = m l refl in
       ap (λ f. is_some (item_from sent l.got f)) q.is ∙ no_item l l.got (sent q.phase) refl q.list_is r.not_ready
+  item_lacks link link' sent from r m = absurd r
 
 of_link : (capacity : ℕ) (link : Link) (l : BothEnds Message) → link ≡ Some l → IsLinkOf capacity link → (l.capacity ≡ capacity) × Delivered l.sent l.got l.capacity
 of_link capacity link l e h = subst (IsLinkOf capacity) e h
@@ -252,9 +239,8 @@ module _ (p : Plan) (first : Bool) (e : NumberedEpoch) (es : List NumberedEpoch)
 
   next_is : (es : List NumberedEpoch) (cs : List CoreView) (js : List Joint) → is_last es ≡ false → AllStand p false es cs (i ∷ js) → (q : Phase) × (phase_of_first (states cs (i ∷ js)) ≡ Some q) × MeetsNext q i
   next_is [] cs js n h = true-false n
-  next_is (d ∷ ds) [] js n h = absurd h
-  next_is (d ∷ ds) (c ∷ cs) [] n h = absurd h
   next_is (d ∷ ds) (c ∷ cs) (k ∷ js) n h = (phase_in c.stage (traffic_between i k), refl, meets_next c.setup i k c.stage h.0.keeps.stage)
+  next_is es cs js n h = absurd h
 
   module _ (cs : List CoreView) (js : List Joint) (h : AllStand p false es cs (i ∷ js)) where
     pub next_ask : (l : BothEnds Message) → i.ask ≡ Some l → IsOther p.capacity false asks_sent_in (phase_of_first (states cs (i ∷ js))) l
@@ -270,5 +256,4 @@ module _ (p : Plan) (first : Bool) (e : NumberedEpoch) (es : List NumberedEpoch)
 pub not_met : (need : Need) (links : Links) (pops pushes : Type 0) → Waits need pops pushes → (pops → is_some links.item ≡ false) → (pushes → links.has_room ≡ false) → is_met need links ≡ false
 not_met Room links pops pushes w f g = g w
 not_met Item links pops pushes w f g = f w
-not_met Nothing links pops pushes w f g = absurd w
-not_met Over links pops pushes w f g = absurd w
+not_met need links pops pushes w f g = absurd w

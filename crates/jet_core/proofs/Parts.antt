@@ -1,6 +1,7 @@
 -- Parts of what is sent in all.
 use Rattle.std.proofs.Common.{◌≡◌, ◌⊎◌, inl, inr, ◌+◌, ◌≤◌, Some, None, List, [], ◌∷◌, ◌++◌, length, refl, ap, sym, subst, ◌∙◌, Bool, true, false, length-append, append-nil, arith}
 use Rattle.std.specs.Prelude.{Option}
+use Rattle.std.proofs.lemmas.List.{same_from_push}
 use Rattle.lists.proofs.Tests.{true-false}
 use Rattle.flow_model.specs.declared.Message.{Message}
 use Rattle.flow_model.specs.declared.Message.TheVariants.{End}
@@ -22,10 +23,6 @@ no_more : {X : Type 0} (xs ys : List X) → xs ++ ys ≡ [] → xs ≡ []
 no_more [] ys e = refl
 no_more (x ∷ xs) ys e = cc
 
-some_more : {X A : Type 0} (xs : List X) (x : X) → [] ≡ xs ++ x ∷ [] → A
-some_more [] x e = cc
-some_more (y ∷ xs) x e = cc
-
 -- a part of a list with one item more is a part of the list, or all of it
 front_or_all : {X : Type 0} (got front rest : List X) (m : X) → got ++ rest ≡ front ++ m ∷ [] → IsPrefix got front ⊎ (got ≡ front ++ m ∷ [])
 front_or_all [] front rest m e = inl (front, refl)
@@ -42,12 +39,6 @@ front_or_all (x ∷ got) (y ∷ front) rest m e =
       by (inl p) same = let tail = p.1 in inl (p.0, cc)
       by (inr all) same = inr cc
 
-last_same : {X : Type 0} (xs ys : List X) (a b : X) → xs ++ a ∷ [] ≡ ys ++ b ∷ [] → a ≡ b
-last_same [] [] a b e = cc
-last_same [] (y ∷ ys) a b e = let none : [] ≡ ys ++ b ∷ [] = cc in some_more ys b none
-last_same (x ∷ xs) [] a b e = let none : [] ≡ xs ++ a ∷ [] = cc in some_more xs a none
-last_same (x ∷ xs) (y ∷ ys) a b e = let later : xs ++ a ∷ [] ≡ ys ++ b ∷ [] = cc in last_same xs ys a b later
-
 -- ---- parts
 
 pub part_length : (all sent : List Message) → IsPart all sent → length sent ≤ length all + 1
@@ -62,7 +53,7 @@ pub whole_part : (all got sent : List Message) → IsPart all sent → IsPrefix 
 whole_part all got sent (inl p) q w = prefix_trans got sent all q p
 whole_part all got sent (inr b) q w = by (front_or_all got b.front q.0 (End false) (q.1 ∙ b.is)) where
   broken : got ≡ b.front ++ End false ∷ [] → EndsWhole got → IsPrefix got all
-  broken e x = let same = last_same b.front x.0 (End false) (End true) (sym e ∙ x.1) in cc
+  broken e x = let same : End false ≡ End true = (same_from_push b.front x.0 (End false) (End true) (sym e ∙ x.1)).1 in cc
 
   by : IsPrefix got b.front ⊎ (got ≡ b.front ++ End false ∷ []) → IsPrefix got all
   by (inl p) = prefix_trans got b.front all p b.part

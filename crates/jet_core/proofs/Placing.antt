@@ -1,6 +1,6 @@
 -- A core and the links beside it, at their places of a line.
 use Rattle.std.proofs.Common.{◌≡◌, ℕ, zero, suc, ◌+◌, ◌<◌, add-one, get_or-set_other, List, [], ◌∷◌, ◌++◌, map, length, set, get_or, refl, ap, sym, subst, subst₂, ◌∙◌, arith}
-use Rattle.std.proofs.lemmas.List.{set-set, get_or_default}
+use Rattle.std.proofs.lemmas.List.{set-set, set_at, get_or_at, get_or_default}
 use Rattle.run_board.specs.declared.task.Turn.{Turn}
 use Rattle.epoch_node.specs.Cores.{CoreView}
 use Rattle.epoch_node.specs.Keeping.{KeepsCore}
@@ -14,39 +14,21 @@ put_back [] p a b c d = refl
 put_back (x ∷ l) zero a b c d = ap (λ m. c ∷ m) (set-set l 0 b d)
 put_back (x ∷ l) (suc p) a b c d = ap (λ m. x ∷ m) (put_back l p a b c d)
 
-pub map_set : {X Y : Type 0} (f : X → Y) (l : List X) (p : ℕ) (x : X) → map f (set l p x) ≡ set (map f l) p (f x)
-map_set f [] p x = refl
-map_set f (y ∷ l) zero x = refl
-map_set f (y ∷ l) (suc p) x = ap (λ m. f y ∷ m) (map_set f l p x)
-
 pub map_get : {X Y : Type 0} (f : X → Y) (l : List X) (p : ℕ) (x : X) → get_or l p x ≡ x → get_or (map f l) p (f x) ≡ f x
 map_get f [] p x e = refl
 map_get f (y ∷ l) zero x e = ap f e
 map_get f (y ∷ l) (suc p) x e = map_get f l p x e
 
-pub map_push : {X Y : Type 0} (f : X → Y) (l : List X) (x : X) → map f (l ++ x ∷ []) ≡ map f l ++ f x ∷ []
-map_push f [] x = refl
-map_push f (y ∷ l) x = ap (λ m. f y ∷ m) (map_push f l x)
-
-pub map_length : {X Y : Type 0} (f : X → Y) (l : List X) → length (map f l) ≡ length l
-map_length f [] = refl
-map_length f (x ∷ l) = ap suc (map_length f l)
-
 pub keeps_placed : (place : ℕ) (cs : List CoreView) (js : List Joint) (c : CoreView) (j i : Joint) → KeepsAt place cs js → get_or cs place c ≡ c → get_or js place j ≡ j → get_or js (suc place) i ≡ i
     → KeepsCore c (traffic_between j i)
-keeps_placed place [] js c j i k a b d = absurd k
-keeps_placed place (c₀ ∷ cs) [] c j i k a b d = absurd k
-keeps_placed place (c₀ ∷ cs) (j₀ ∷ []) c j i k a b d = absurd k
 keeps_placed zero (c₀ ∷ cs) (j₀ ∷ i₀ ∷ js) c j i k a b d =
     subst (λ (c : CoreView). KeepsCore c (traffic_between j i)) a (subst₂ (λ (j i : Joint). KeepsCore c₀ (traffic_between j i)) b d k)
 keeps_placed (suc place) (c₀ ∷ cs) (j₀ ∷ i₀ ∷ js) c j i k a b d = keeps_placed place cs (i₀ ∷ js) c j i k a b d
+keeps_placed place cs js c j i k a b d = absurd k
 
 pub turns_placed : (place : ℕ) (cs : List CoreView) (js : List Joint) (c : CoreView) (j i : Joint) (c' : CoreView) (j' i' : Joint) (answer : Turn) → KeepsAt place cs js
     → get_or cs place c ≡ c → get_or js place j ≡ j → get_or js (suc place) i ≡ i → TurnsBetween c j i c' j' i' answer
     → TurnsAt place cs js (set cs place c') (set (set js place j') (suc place) i')
-turns_placed place [] js c j i c' j' i' answer k a b d t = absurd k
-turns_placed place (c₀ ∷ cs) [] c j i c' j' i' answer k a b d t = absurd k
-turns_placed place (c₀ ∷ cs) (j₀ ∷ []) c j i c' j' i' answer k a b d t = absurd k
 turns_placed zero (c₀ ∷ cs) (j₀ ∷ i₀ ∷ js) c j i c' j' i' answer k a b d t = record {
   core = c';
   previous = j';
@@ -63,13 +45,12 @@ turns_placed (suc place) (c₀ ∷ cs) (j₀ ∷ i₀ ∷ js) c j i c' j' i' ans
   joints_are = refl;
   later = turns_placed place cs (i₀ ∷ js) c j i c' j' i' answer k a b d t;
 }
+turns_placed place cs js c j i c' j' i' answer k a b d t = absurd k
 
 pub turns_count : (place : ℕ) (cs : List CoreView) (js : List Joint) (cs' : List CoreView) (js' : List Joint) → TurnsAt place cs js cs' js' → length cs' ≡ length cs
-turns_count place [] js cs' js' t = absurd t
-turns_count place (c ∷ cs) [] cs' js' t = absurd t
-turns_count place (c ∷ cs) (j ∷ []) cs' js' t = absurd t
 turns_count zero (c ∷ cs) (j ∷ i ∷ js) cs' js' t = ap length t.cores_are
 turns_count (suc place) (c ∷ cs) (j ∷ i ∷ js) cs' js' t = ap length t.cores_are ∙ ap suc (turns_count place cs (i ∷ js) t.cores t.joints t.later)
+turns_count place cs js cs' js' t = absurd t
 
 pub put_back_at : {X : Type 0} (l : List X) (p : ℕ) (a b c d : X) → set (set (set (set l p a) (p + 1) b) p c) (p + 1) d ≡ set (set l p c) (p + 1) d
 put_back_at l p a b c d = subst (λ (q : ℕ). set (set (set (set l p a) q b) p c) q d ≡ set (set l p c) q d) (sym (add-one p)) (put_back l p a b c d)
@@ -99,19 +80,14 @@ turns_one place cs js c c' js' k a t =
     (subst (λ (q : ℕ). TurnsBetween c (joint_at js place) (joint_at js q) c' t.previous t.next t.answer) (add-one place) t.turns))
 
 -- the core after these
-core_after : (front rest : List CoreView) (c : CoreView) → get_or (front ++ c ∷ rest) (length front) c ≡ c
-core_after [] rest c = refl
-core_after (d ∷ front) rest c = core_after front rest c
-
-set_after : (front rest : List CoreView) (c c' : CoreView) → set (front ++ c ∷ rest) (length front) c' ≡ front ++ c' ∷ rest
-set_after [] rest c c' = refl
-set_after (d ∷ front) rest c c' = ap (λ cs. d ∷ cs) (set_after front rest c c')
-
 module _ (front rest : List CoreView) (c : CoreView) (place : ℕ) (e : place ≡ length front) (js : List Joint) (k : KeepsAt (length front) (front ++ c ∷ rest) js) where
   pub keeps_next : KeepsCore c (traffic_between (joint_at js place) (joint_at js (place + 1)))
-  keeps_next = subst (λ (n : ℕ). KeepsCore c (traffic_between (joint_at js n) (joint_at js (n + 1)))) (sym e) (keeps_one (length front) (front ++ c ∷ rest) js c k (core_after front rest c))
+  keeps_next =
+      subst (λ (n : ℕ). KeepsCore c (traffic_between (joint_at js n) (joint_at js (n + 1)))) (sym e)
+      (keeps_one (length front) (front ++ c ∷ rest) js c k (get_or_at front c rest c (length front) refl))
 
   pub turns_next : (c' : CoreView) (js' : List Joint) → TurnsOne c js place c' js' → TurnsAt (length front) (front ++ c ∷ rest) js (front ++ c' ∷ rest) js'
   turns_next c' js' t =
-      subst (λ (cs : List CoreView). TurnsAt (length front) (front ++ c ∷ rest) js cs js') (set_after front rest c c')
-      (turns_one (length front) (front ++ c ∷ rest) js c c' js' k (core_after front rest c) (subst (λ (n : ℕ). TurnsOne c js n c' js') e t))
+      subst (λ (cs : List CoreView). TurnsAt (length front) (front ++ c ∷ rest) js cs js') (set_at front c rest c' (length front) refl)
+      (turns_one (length front) (front ++ c ∷ rest) js c c' js' k (get_or_at front c rest c (length front) refl)
+      (subst (λ (n : ℕ). TurnsOne c js n c' js') e t))

@@ -20,26 +20,22 @@ use Rattle.jet_core.proofs.Events.{asks_settled}
 pub inlet_of : (capacity : ℕ) (new old : Link) → IsInletFrom new old → IsSound new → IsLinkOf capacity old → IsLinkOf capacity new
 inlet_of capacity None None f s l = tt
 inlet_of capacity (Some new) (Some old) f s l = (f.capacity ∙ l.0, s)
-inlet_of capacity None (Some old) f s l = absurd f
-inlet_of capacity (Some new) None f s l = absurd f
+inlet_of capacity new old f s l = absurd f
 
 pub outlet_of : (capacity : ℕ) (new old : Link) → IsOutletFrom new old → IsSound new → IsLinkOf capacity old → IsLinkOf capacity new
 outlet_of capacity None None f s l = tt
 outlet_of capacity (Some new) (Some old) f s l = (f.capacity ∙ l.0, s)
-outlet_of capacity None (Some old) f s l = absurd f
-outlet_of capacity (Some new) None f s l = absurd f
+outlet_of capacity new old f s l = absurd f
 
 pub inlet_sent : (new old : Link) → IsInletFrom new old → sent_on new ≡ sent_on old
 inlet_sent None None f = refl
 inlet_sent (Some new) (Some old) f = ap Some f.other
-inlet_sent None (Some old) f = absurd f
-inlet_sent (Some new) None f = absurd f
+inlet_sent new old f = absurd f
 
 pub outlet_got : (new old : Link) → IsOutletFrom new old → got_on new ≡ got_on old
 outlet_got None None f = refl
 outlet_got (Some new) (Some old) f = ap Some f.other
-outlet_got None (Some old) f = absurd f
-outlet_got (Some new) None f = absurd f
+outlet_got new old f = absurd f
 
 -- ---- links that changed at one end, seen from the other
 
@@ -230,17 +226,11 @@ AreSameForPrevious (j ∷ js) (j' ∷ js') = IsSameForPrevious j j'
 module _ (p : Plan) where
   other_head : (first : Bool) (es : List NumberedEpoch) (cs : List CoreView) (i i' : Joint) (js : List Joint) → IsSameForNext i i' → AllStand p first es cs (i ∷ js) → AllStand p first es cs (i' ∷ js)
   other_head first [] [] i i' [] same s = tt
-  other_head first [] [] i i' (j ∷ js) same s = absurd s
-  other_head first [] (c ∷ cs) i i' js same s = absurd s
-  other_head first (e ∷ es) [] i i' js same s = absurd s
-  other_head first (e ∷ es) (c ∷ cs) i i' [] same s = absurd s
   other_head first (e ∷ es) (c ∷ cs) i i' (b ∷ js) same s = (stands_for_next p.capacity (setup_at p.run e first (is_last es)) c i i' b same s.0, s.1)
+  other_head first es cs i i' js same s = absurd s
 
   pub turn_stands : (place : ℕ) (first : Bool) (es : List NumberedEpoch) (cs : List CoreView) (js : List Joint) (cs' : List CoreView) (js' : List Joint) → AllStand p first es cs js → TurnsAt place cs js cs' js'
       → AllStand p first es cs' js' × AreSameForPrevious js js'
-  turn_stands place first es [] js cs' js' s t = absurd t
-  turn_stands place first es (c ∷ cs) [] cs' js' s t = absurd t
-  turn_stands place first es (c ∷ cs) (j ∷ []) cs' js' s t = absurd t
   turn_stands place first [] (c ∷ cs) (j ∷ i ∷ js) cs' js' s t = absurd s
   turn_stands zero first (e ∷ es) (c ∷ cs) (j ∷ i ∷ js) cs' js' s t =
       let g = setup_at p.run e first (is_last es) in (
@@ -258,23 +248,17 @@ module _ (p : Plan) where
       by : (joints : List Joint) → AllStand p false es t.cores joints → AreSameForPrevious (i ∷ js) joints → AllStand p first (e ∷ es) (c ∷ t.cores) (j ∷ joints)
       by [] stand same = absurd same
       by (i' ∷ js') stand same = (stands_for_previous p.capacity (setup_at p.run e first (is_last es)) c j i i' same s.0, stand)
+  turn_stands place first es cs js cs' js' s t = absurd t
 
   -- the core at each place keeps what it is to keep
   pub keeps_at : (place : ℕ) (first : Bool) (es : List NumberedEpoch) (cs : List CoreView) (js : List Joint) → AllStand p first es cs js → place < length cs → KeepsAt place cs js
   keeps_at place first es [] js s b = absurd (omega (arith, b))
-  keeps_at place first [] (c ∷ cs) js s b = absurd s
-  keeps_at place first (e ∷ es) (c ∷ cs) [] s b = absurd s
-  keeps_at place first (e ∷ es) (c ∷ cs) (j ∷ []) s b = absurd s
   keeps_at zero first (e ∷ es) (c ∷ cs) (j ∷ i ∷ js) s b = s.0.keeps
   keeps_at (suc place) first (e ∷ es) (c ∷ cs) (j ∷ i ∷ js) s b = keeps_at place false es cs (i ∷ js) s.1 (omega (arith, b))
+  keeps_at place first es cs js s b = absurd s
 
   -- there is one joint more
   pub joints_count : (first : Bool) (es : List NumberedEpoch) (cs : List CoreView) (js : List Joint) → AllStand p first es cs js → length js ≡ length cs + 1
-  joints_count first [] [] [] s = absurd s
   joints_count first [] [] (j ∷ []) s = refl
-  joints_count first [] [] (j ∷ i ∷ js) s = absurd s
-  joints_count first [] (c ∷ cs) js s = absurd s
-  joints_count first (e ∷ es) [] js s = absurd s
-  joints_count first (e ∷ es) (c ∷ cs) [] s = absurd s
-  joints_count first (e ∷ es) (c ∷ cs) (j ∷ []) s = absurd s
   joints_count first (e ∷ es) (c ∷ cs) (j ∷ i ∷ js) s = let n = joints_count false es cs (i ∷ js) s.1 in omega (arith, n)
+  joints_count first es cs js s = absurd s

@@ -1,5 +1,6 @@
 -- In a line whose cores have begun, an event sends a part of what is to be sent, and leaves less to do, or it cannot move.
 use Rattle.std.proofs.Common.{◌≡◌, ◌⊎◌, inl, inr, ℕ, zero, suc, ◌+◌, ◌<◌, List, [], ◌∷◌, map, refl, ap, ap₂, sym, subst, subst₂, ◌∙◌, Bool, true, false, arith}
+use Rattle.std.proofs.Common.{⊎_elim}
 use Rattle.std.specs.Prelude.{Option, Some, None, is_none}
 use Rattle.lists.proofs.Tests.{true-false}
 use Rattle.flow_model.specs.declared.Message.{Message}
@@ -12,7 +13,7 @@ use Rattle.stream_model.specs.Schedules.{Phase, NodeState, is_met, asks_sent_in,
 use Rattle.pass_parts.specs.Known.{known}
 use Rattle.backward_pass.specs.Backward.{BackView, knows, state}
 use Rattle.forward_pass.specs.Forward.{ForeView, known_by, fore_state}
-use Rattle.epoch_node.specs.Cores.{CoreSetup, StageView, Fresh, Asking, Answering, Done, Between, CoreView}
+use Rattle.epoch_node.specs.Cores.{CoreSetup, StageView, Asking, Answering, Done, CoreView}
 use Rattle.epoch_node.specs.Keeping.{Traffic, HasLinks, AtStage}
 use Rattle.epoch_node.specs.Events.{PhaseTraffic, WhenNotYet, WaitsAt, settled_by, answered_by, Steps}
 use Rattle.epoch_layout.specs.Layouts.{setup_at}
@@ -87,12 +88,30 @@ module _ (p : Plan) (first : Bool) (e : NumberedEpoch) (es : List NumberedEpoch)
         let to : AtStage c.setup c'.stage w' = subst₂ (λ (g : CoreSetup) (w : Traffic). AtStage g c'.stage w) setup_same traffic after.keeps.stage in
         let part = asks_sent_part c.setup v w at c'.stage (got_on i'.ask) (sent_on j'.ask) answer steps (summaries_of cs) links to (links.asks_sent ∙ sym s.keeps.links.asks_sent) asked sent in
         let known_same : known steps.back.summary ≡ knows v = ap known steps.same.summary in
+        let rest = all_asks (summaries_of cs) in
+        let asks = all_asks (knows v ∷ summaries_of cs) in
+        let all = all_answers first (knows v) (summaries_of cs) answered in
+        let next = phase_of_first (states cs (i ∷ js)) in
         record {
           begun = subst HasBegun (sym steps.is) (begun steps.back steps.back.over);
           summary = ap summary_at steps.is ∙ summary steps.back steps.back.over ∙ known_same;
           asks = part;
           answers = subst (HasSentPart (all_answers first (knows v) (summaries_of cs) answered)) (sym (ap sent_on x.next_answer)) answers;
-          progress = by (not_yet_or answer) part steps traffic;
+          progress = ⊎_elim
+              (λ n.
+              let same = when_not _ n x.on.event.not_yet in
+              let waits =
+              subst (λ g. WaitsAt g (traffic_on i.ask j.ask) (IsPopRefused i.ask i'.ask) (IsPushRefused j.ask j'.ask)) q (when_not _ n x.on.waits) in
+              inr (record {
+                core = same.0;
+                traffic = traffic ∙ ap (λ (on : PhaseTraffic). record w { asks_got = on.got; asks_sent = on.sent }) same.1;
+                still = not_met _ (asking_links p.capacity false previous next (state v (got_on i.ask) (sent_on j.ask))) (IsPopRefused i.ask i'.ask) (IsPushRefused j.ask j'.ask) waits
+                    (λ r. item_lacks p.capacity i.ask i'.ask asks_sent_in next r (next_ask p first e es c j i s cs js h))
+                    (λ r. room_lacks p.capacity j.ask j'.ask v.over v.whole asks_got_in previous r (previous_ask p first e es c j i s previous (i ∷ js) b));
+              }))
+              (λ n. inl (subst (λ w'. core_left asks rest answered all (phase_in c'.stage w') < core_left asks rest answered all (phase_in (Asking v) w)) (sym traffic)
+              (asks_less c.setup v w at c'.stage (got_on i'.ask) (sent_on j'.ask) answer steps (summaries_of cs) asks answered all part asked n)))
+              (not_yet_or answer);
         }
       where
         begun : (back : BackView) (over : Bool) → HasBegun (settled_by over c.setup back)
@@ -102,29 +121,6 @@ module _ (p : Plan) (first : Bool) (e : NumberedEpoch) (es : List NumberedEpoch)
         summary : (back : BackView) (over : Bool) → summary_at (settled_by over c.setup back) ≡ known back.summary
         summary back true = refl
         summary back false = refl
-
-        by : (answer ≡ turn.NotYet) ⊎ (answer ≡ turn.NotYet → ⊥) → HasSentPart (all_asks (knows v ∷ summaries_of cs)) (sent_on j'.ask)
-            → Steps c.setup (Asking v) (got_on i.ask) (sent_on j.ask) c'.stage (got_on i'.ask) (sent_on j'.ask) answer
-            → traffic_between j' i' ≡ record (traffic_between j i) { asks_got = got_on i'.ask; asks_sent = sent_on j'.ask }
-            → (core_left (all_asks (knows v ∷ summaries_of cs)) (all_asks (summaries_of cs)) answered (all_answers first (knows v) (summaries_of cs) answered) (phase_in c'.stage (traffic_between j' i'))
-            < core_left (all_asks (knows v ∷ summaries_of cs)) (all_asks (summaries_of cs)) answered (all_answers first (knows v) (summaries_of cs) answered) (phase_in (Asking v) (traffic_between j i)))
-            ⊎ CannotMove p.capacity previous (phase_of_first (states cs (i ∷ js))) (Asking v) c c' (traffic_between j i) (traffic_between j' i')
-        by (inr n) part steps traffic =
-            let at = subst (λ g. AtStage c.setup g (traffic_between j i)) q s.keeps.stage in
-            let asks = all_asks (knows v ∷ summaries_of cs) in
-            let answers = all_answers first (knows v) (summaries_of cs) answered in
-            inl (subst (λ w. core_left asks (all_asks (summaries_of cs)) answered answers (phase_in c'.stage w) < core_left asks (all_asks (summaries_of cs)) answered answers (phase_in (Asking v) (traffic_between j i))) (sym traffic)
-            (asks_less c.setup v (traffic_between j i) at c'.stage (got_on i'.ask) (sent_on j'.ask) answer steps (summaries_of cs) asks answered answers part asked n))
-        by (inl n) part steps traffic =
-            let same = when_not _ n x.on.event.not_yet in
-            let waits = subst (λ g. WaitsAt g (traffic_on i.ask j.ask) (IsPopRefused i.ask i'.ask) (IsPushRefused j.ask j'.ask)) q (when_not _ n x.on.waits) in
-            inr (record {
-              core = same.0;
-              traffic = traffic ∙ ap (λ (on : PhaseTraffic). record (traffic_between j i) { asks_got = on.got; asks_sent = on.sent }) same.1;
-              still = not_met _ (asking_links p.capacity false previous (phase_of_first (states cs (i ∷ js))) (state v (got_on i.ask) (sent_on j.ask))) (IsPopRefused i.ask i'.ask) (IsPushRefused j.ask j'.ask) waits
-                  (λ r. item_lacks p.capacity i.ask i'.ask asks_sent_in (phase_of_first (states cs (i ∷ js))) r (next_ask p first e es c j i s cs js h))
-                  (λ r. room_lacks p.capacity j.ask j'.ask v.over v.whole asks_got_in previous r (previous_ask p first e es c j i s previous (i ∷ js) b));
-            })
 
   -- while it answers
   module _ (f : ForeView) (q : c.stage ≡ Answering f) (x : TurnsAnswering c c' j i j' i' answer) where
@@ -142,12 +138,31 @@ module _ (p : Plan) (first : Bool) (e : NumberedEpoch) (es : List NumberedEpoch)
         (answers_sent_part c.setup f w at.0 at.1 c'.stage (got_on j'.answer) (sent_on i'.answer) answer steps (summaries_of cs) links to (links.answers_sent ∙ sym s.keeps.links.answers_sent) got answered heard
         (subst (λ b. HasSentPart (all_answers b (known_by f) (summaries_of cs) answered) (sent_on i.answer)) (sym first_is) answers)) in
         let known_same : known steps.fore.summary ≡ known_by f = ap known steps.same.summary in
+        let rest = all_asks (summaries_of cs) in
+        let asks = all_asks (known_by f ∷ summaries_of cs) in
+        let all = all_answers first (known_by f) (summaries_of cs) answered in
+        let next = phase_of_first (states cs (i ∷ js)) in
         record {
           begun = subst HasBegun (sym steps.is) (begun steps.fore steps.fore.over);
           summary = ap summary_at steps.is ∙ summary steps.fore steps.fore.over ∙ known_same;
           asks = subst (HasSentPart (all_asks (known_by f ∷ summaries_of cs))) (sym (ap sent_on x.previous_ask)) sent;
           answers = part;
-          progress = by (not_yet_or answer) part steps traffic;
+          progress = ⊎_elim
+              (λ n.
+              let same = when_not _ n x.on.event.not_yet in
+              let waits =
+              subst (λ g. WaitsAt g (traffic_on j.answer i.answer) (IsPopRefused j.answer j'.answer) (IsPushRefused i.answer i'.answer)) q
+              (when_not _ n x.on.waits) in
+              inr (record {
+                core = same.0;
+                traffic = traffic ∙ ap (λ (on : PhaseTraffic). record w { answers_got = on.got; answers_sent = on.sent }) same.1;
+                still = not_met _ (answering_links p.capacity false previous next (fore_state f (got_on j.answer) (sent_on i.answer))) (IsPopRefused j.answer j'.answer) (IsPushRefused i.answer i'.answer) waits
+                    (λ r. item_lacks p.capacity j.answer j'.answer answers_sent_in previous r (previous_answer p first e es c j i s previous (i ∷ js) b))
+                    (λ r. room_lacks p.capacity i.answer i'.answer f.over f.whole answers_got_in next r (next_answer p first e es c j i s cs js h));
+              }))
+              (λ n. inl (subst (λ w'. core_left asks rest answered all (phase_in c'.stage w') < core_left asks rest answered all (phase_in (Answering f) w)) (sym traffic)
+              (answers_less c.setup f w at.0 at.1 c'.stage (got_on j'.answer) (sent_on i'.answer) answer steps (summaries_of cs) asks rest answered all part heard n)))
+              (not_yet_or answer);
         }
       where
         begun : (fore : ForeView) (over : Bool) → HasBegun (answered_by over fore)
@@ -157,29 +172,6 @@ module _ (p : Plan) (first : Bool) (e : NumberedEpoch) (es : List NumberedEpoch)
         summary : (fore : ForeView) (over : Bool) → summary_at (answered_by over fore) ≡ known fore.summary
         summary fore true = refl
         summary fore false = refl
-
-        by : (answer ≡ turn.NotYet) ⊎ (answer ≡ turn.NotYet → ⊥) → HasSentPart (all_answers first (known_by f) (summaries_of cs) answered) (sent_on i'.answer)
-            → Steps c.setup (Answering f) (got_on j.answer) (sent_on i.answer) c'.stage (got_on j'.answer) (sent_on i'.answer) answer
-            → traffic_between j' i' ≡ record (traffic_between j i) { answers_got = got_on j'.answer; answers_sent = sent_on i'.answer }
-            → (core_left (all_asks (known_by f ∷ summaries_of cs)) (all_asks (summaries_of cs)) answered (all_answers first (known_by f) (summaries_of cs) answered) (phase_in c'.stage (traffic_between j' i'))
-            < core_left (all_asks (known_by f ∷ summaries_of cs)) (all_asks (summaries_of cs)) answered (all_answers first (known_by f) (summaries_of cs) answered) (phase_in (Answering f) (traffic_between j i)))
-            ⊎ CannotMove p.capacity previous (phase_of_first (states cs (i ∷ js))) (Answering f) c c' (traffic_between j i) (traffic_between j' i')
-        by (inr n) part steps traffic =
-            let at = subst (λ g. AtStage c.setup g (traffic_between j i)) q s.keeps.stage in
-            let asks = all_asks (known_by f ∷ summaries_of cs) in
-            let answers = all_answers first (known_by f) (summaries_of cs) answered in
-            inl (subst (λ w. core_left asks (all_asks (summaries_of cs)) answered answers (phase_in c'.stage w) < core_left asks (all_asks (summaries_of cs)) answered answers (phase_in (Answering f) (traffic_between j i))) (sym traffic)
-            (answers_less c.setup f (traffic_between j i) at.0 at.1 c'.stage (got_on j'.answer) (sent_on i'.answer) answer steps (summaries_of cs) asks (all_asks (summaries_of cs)) answered answers part heard n))
-        by (inl n) part steps traffic =
-            let same = when_not _ n x.on.event.not_yet in
-            let waits = subst (λ g. WaitsAt g (traffic_on j.answer i.answer) (IsPopRefused j.answer j'.answer) (IsPushRefused i.answer i'.answer)) q (when_not _ n x.on.waits) in
-            inr (record {
-              core = same.0;
-              traffic = traffic ∙ ap (λ (on : PhaseTraffic). record (traffic_between j i) { answers_got = on.got; answers_sent = on.sent }) same.1;
-              still = not_met _ (answering_links p.capacity false previous (phase_of_first (states cs (i ∷ js))) (fore_state f (got_on j.answer) (sent_on i.answer))) (IsPopRefused j.answer j'.answer) (IsPushRefused i.answer i'.answer) waits
-                  (λ r. item_lacks p.capacity j.answer j'.answer answers_sent_in previous r (previous_answer p first e es c j i s previous (i ∷ js) b))
-                  (λ r. room_lacks p.capacity i.answer i'.answer f.over f.whole answers_got_in (phase_of_first (states cs (i ∷ js))) r (next_answer p first e es c j i s cs js h));
-            })
 
   -- once it is done
   done_turned : (f : ForeView) → c.stage ≡ Done f → Stays c c' j i j' i' → HasSentPart (all_asks (known_by f ∷ summaries_of cs)) (sent_on j.ask) → HasSentPart (all_answers first (known_by f) (summaries_of cs) answered) (sent_on i.answer)
@@ -205,11 +197,10 @@ module _ (p : Plan) (first : Bool) (e : NumberedEpoch) (es : List NumberedEpoch)
   core_turned sends = by c.stage refl t.event sends.begun sends.asks sends.answers where
     by : (g : StageView) → c.stage ≡ g → TurnsIn g c c' j i j' i' answer → HasBegun g → HasSentPart (all_asks (summary_at g ∷ summaries_of cs)) (sent_on j.ask)
         → HasSentPart (all_answers first (summary_at g) (summaries_of cs) answered) (sent_on i.answer) → Turned g
-    by (Fresh n) q x begun sent answers = absurd begun
     by (Asking v) q x begun sent answers = asking_turned v q x sent answers
     by (Answering f) q x begun sent answers = answering_turned f q x sent answers
     by (Done f) q x begun sent answers = done_turned f q x sent answers
-    by Between q x begun sent answers = absurd begun
+    by g q x begun sent answers = absurd begun
 
 -- ---- a line
 
@@ -219,10 +210,8 @@ source all (Some sent) n s = s refl
 
 states_summaries : (p : Plan) (first : Bool) (es : List NumberedEpoch) (cs : List CoreView) (js : List Joint) → AllStand p first es cs js → map (λ (n : NodeState). n.summary) (states cs js) ≡ summaries_of cs
 states_summaries p first es [] js s = refl
-states_summaries p first [] (c ∷ cs) js s = absurd s
-states_summaries p first (e ∷ es) (c ∷ cs) [] s = absurd s
-states_summaries p first (e ∷ es) (c ∷ cs) (j ∷ []) s = absurd s
 states_summaries p first (e ∷ es) (c ∷ cs) (j ∷ i ∷ js) s = ap (λ ds. summary_at c.stage ∷ ds) (states_summaries p false es cs (i ∷ js) s.1)
+states_summaries p first es cs js s = absurd s
 
 -- links that changed at their other ends
 parts_of_next : (first : Bool) (answered : List Message) (cs : List CoreView) (i i' : Joint) (js : List Joint) → IsSameForNext i i' → AllSendPart first answered cs (i ∷ js) → AllSendPart first answered cs (i' ∷ js)
@@ -281,17 +270,12 @@ module _ (p : Plan) where
 
     by : (ds : List NumberedEpoch) → is_none (sent_on i.ask) ≡ is_last ds → (cs : List CoreView) (js : List Joint) → AllStand p false ds cs (i ∷ js) → AllSendPart false answered cs (i ∷ js) → IsSource (all_asks (summaries_of cs)) (sent_on i.ask)
     by [] n [] js h a = source _ (sent_on i.ask) (λ t. refl) (λ f. true-false (sym n ∙ f))
-    by [] n (c ∷ cs) js h a = absurd h
-    by (d ∷ ds) n [] js h a = absurd h
-    by (d ∷ ds) n (c ∷ cs) [] h a = absurd a
     by (d ∷ ds) n (c ∷ cs) (k ∷ js) h a = source _ (sent_on i.ask) (λ t. true-false (sym t ∙ n)) (λ f. a.0.asks)
+    by ds n cs js h a = absurd h
 
   pub turned : (place : ℕ) (first : Bool) (es : List NumberedEpoch) (answered : List Message) (previous : Option Phase) (cs : List CoreView) (js : List Joint) (cs' : List CoreView) (js' : List Joint)
       → AllStand p first es cs js → AllSendPart first answered cs js → IsAnswered answered js → ComesBefore p.capacity first previous js → TurnsAt place cs js cs' js'
       → LineTurned p.capacity place first answered previous cs js cs' js'
-  turned place first es answered previous [] js cs' js' s a h b t = absurd t
-  turned place first es answered previous (c ∷ cs) [] cs' js' s a h b t = absurd t
-  turned place first es answered previous (c ∷ cs) (j ∷ []) cs' js' s a h b t = absurd t
   turned place first [] answered previous (c ∷ cs) (j ∷ i ∷ js) cs' js' s a h b t = absurd s
   turned zero first (e ∷ es) answered previous (c ∷ cs) (j ∷ i ∷ js) cs' js' s a h b t =
       let front = seen_by_previous c j i t.core t.previous t.next t.answer t.turns in
@@ -309,25 +293,18 @@ module _ (p : Plan) where
           subst (λ (d : Summary). AllSendPart false (all_answers first d (summaries_of cs) answered) cs (t.next ∷ js)) (sym r.summary) (parts_of_next false _ cs i t.next js back a.1),
         );
         same = ap (λ (d : Summary). d ∷ summaries_of cs) r.summary;
-        progress = by r.summary r.progress back;
+        progress = ⊎_elim
+            (λ less. inl (row_here first answered (record { summary = summary_at c.stage; phase = phase_in c.stage (traffic_between j i) })
+            (record { summary = summary_at t.core.stage; phase = phase_in t.core.stage (traffic_between t.previous t.next) })
+            (states cs (i ∷ js)) (states cs (t.next ∷ js)) (summaries_of cs) r.summary (states_of_next cs i t.next js back) (states_summaries p false es cs (i ∷ js) s.1) less))
+            (λ still. inr (
+              ap₂ (λ (n : NodeState) (ns : List NodeState). n ∷ ns)
+                  (ap₂ (λ (c : CoreView) (w : Traffic). record { summary = summary_at c.stage; phase = phase_in c.stage w }) still.core still.traffic)
+                  (states_of_next cs i t.next js back),
+              still.still,
+            ))
+            r.progress;
       })
-    where
-      by : summary_at t.core.stage ≡ summary_at c.stage
-          → (core_left (all_asks (summary_at c.stage ∷ summaries_of cs)) (all_asks (summaries_of cs)) answered (all_answers first (summary_at c.stage) (summaries_of cs) answered) (phase_in t.core.stage (traffic_between t.previous t.next))
-          < core_left (all_asks (summary_at c.stage ∷ summaries_of cs)) (all_asks (summaries_of cs)) answered (all_answers first (summary_at c.stage) (summaries_of cs) answered) (phase_in c.stage (traffic_between j i)))
-          ⊎ CannotMove p.capacity previous (phase_of_first (states cs (i ∷ js))) c.stage c t.core (traffic_between j i) (traffic_between t.previous t.next)
-          → IsSameForNext i t.next
-          → (row_left first answered (states (t.core ∷ cs) (t.previous ∷ t.next ∷ js)) < row_left first answered (states (c ∷ cs) (j ∷ i ∷ js)))
-          ⊎ ((states (t.core ∷ cs) (t.previous ∷ t.next ∷ js) ≡ states (c ∷ cs) (j ∷ i ∷ js)) × (moves_at p.capacity zero previous (states (c ∷ cs) (j ∷ i ∷ js)) ≡ false))
-      by summary (inl less) back =
-          inl (row_here first answered (record { summary = summary_at c.stage; phase = phase_in c.stage (traffic_between j i) }) (record { summary = summary_at t.core.stage; phase = phase_in t.core.stage (traffic_between t.previous t.next) })
-          (states cs (i ∷ js)) (states cs (t.next ∷ js)) (summaries_of cs) summary (states_of_next cs i t.next js back) (states_summaries p false es cs (i ∷ js) s.1) less)
-      by summary (inr still) back = inr (
-        ap₂ (λ (n : NodeState) (ns : List NodeState). n ∷ ns)
-            (ap₂ (λ (c : CoreView) (w : Traffic). record { summary = summary_at c.stage; phase = phase_in c.stage w }) still.core still.traffic)
-            (states_of_next cs i t.next js back),
-        still.still,
-      )
   turned (suc place) first (e ∷ es) answered previous (c ∷ cs) (j ∷ i ∷ js) cs' js' s a h b t =
       let answers = all_answers first (summary_at c.stage) (summaries_of cs) answered in
       let src = source answers (sent_on i.answer) (λ n. true-false (sym n ∙ s.0.keeps.links.answers_sent ∙ ap (λ (g : CoreSetup). g.last) s.0.setup ∙ not_last es cs t.cores t.joints s.1 t.later)) (λ n. a.0.answers) in
@@ -354,20 +331,17 @@ module _ (p : Plan) where
           subst (λ (ds : List Summary). AllSendPart false (all_answers first (summary_at c.stage) ds answered) t.cores (i' ∷ js')) (sym r.same) r.parts,
         );
         same = ap (λ (ds : List Summary). summary_at c.stage ∷ ds) r.same;
-        progress = on r.progress;
+        progress = ⊎_elim
+            (λ less. inl
+            (row_later first answered (record { summary = summary_at c.stage; phase = phase_in c.stage (traffic_between j i) }) (record { summary = summary_at c.stage; phase = phase_in c.stage (traffic_between j i') })
+            (states cs (i ∷ js)) (states t.cores (i' ∷ js')) (summaries_of cs) (ap (λ (w : Traffic). record { summary = summary_at c.stage; phase = phase_in c.stage w }) traffic)
+            (states_summaries p false es cs (i ∷ js) s.1) (states_summaries p false es t.cores (i' ∷ js') stands ∙ r.same) less))
+            (λ still. inr (
+              ap₂ (λ (n : NodeState) (ns : List NodeState). n ∷ ns) (ap (λ (w : Traffic). record { summary = summary_at c.stage; phase = phase_in c.stage w }) traffic) still.0,
+              still.1,
+            ))
+            r.progress;
       } where
         traffic : traffic_between j i' ≡ traffic_between j i
         traffic = traffic_for_previous j i i' same
-
-        on : (row_left false (all_answers first (summary_at c.stage) (summaries_of cs) answered) (states t.cores (i' ∷ js')) < row_left false (all_answers first (summary_at c.stage) (summaries_of cs) answered) (states cs (i ∷ js)))
-            ⊎ ((states t.cores (i' ∷ js') ≡ states cs (i ∷ js)) × (moves_at p.capacity place (Some (phase_in c.stage (traffic_between j i))) (states cs (i ∷ js)) ≡ false))
-            → (row_left first answered (states (c ∷ t.cores) (j ∷ i' ∷ js')) < row_left first answered (states (c ∷ cs) (j ∷ i ∷ js)))
-            ⊎ ((states (c ∷ t.cores) (j ∷ i' ∷ js') ≡ states (c ∷ cs) (j ∷ i ∷ js)) × (moves_at p.capacity (suc place) previous (states (c ∷ cs) (j ∷ i ∷ js)) ≡ false))
-        on (inl less) =
-            inl (row_later first answered (record { summary = summary_at c.stage; phase = phase_in c.stage (traffic_between j i) }) (record { summary = summary_at c.stage; phase = phase_in c.stage (traffic_between j i') })
-            (states cs (i ∷ js)) (states t.cores (i' ∷ js')) (summaries_of cs) (ap (λ (w : Traffic). record { summary = summary_at c.stage; phase = phase_in c.stage w }) traffic)
-            (states_summaries p false es cs (i ∷ js) s.1) (states_summaries p false es t.cores (i' ∷ js') stands ∙ r.same) less)
-        on (inr still) = inr (
-          ap₂ (λ (n : NodeState) (ns : List NodeState). n ∷ ns) (ap (λ (w : Traffic). record { summary = summary_at c.stage; phase = phase_in c.stage w }) traffic) still.0,
-          still.1,
-        )
+  turned place first es answered previous cs js cs' js' s a h b t = absurd t

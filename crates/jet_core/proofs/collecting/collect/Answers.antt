@@ -1,4 +1,5 @@
 use Rattle.std.proofs.Common.{◌≡◌, [], ◌∷◌, ◌++◌, List, map, drop, length, refl, ap, ap₂, sym, ◌∙◌, subst, append_assoc, append-nil, true, arith}
+use Rattle.std.proofs.lemmas.List.{map_push, nil_from_length}
 use Rattle.std.specs.Prelude.{IfOk}
 use Rattle.std.specs.List.{sum_by}
 use Rattle.std.specs.Vec.Iter.{into_iter_items}
@@ -8,11 +9,9 @@ use Rattle.epoch_node.specs.Cores.{core_of}
 use Rattle.epoch_node.specs.Keeping.{HasDone, HasCounted}
 use Rattle.epoch_layout.specs.Layouts.{epochs_of}
 use Rattle.epoch_layout.specs.DoneLines.{DoneNode}
-use Rattle.epoch_layout.proofs.Layouts.{no_items}
 use Rattle.epoch_layout.proofs.Whole.{done_lines_come}
 use Rattle.epoch_layout.proofs.Popping.{capped_more}
 use Rattle.jet_core.specs.Lines.{AreDone, AllStand}
-use Rattle.jet_core.proofs.Placing.{map_push}
 use Rattle.jet_core.proofs.Doing.{done_each}
 use Rattle.jet_core.proofs.Nodes.{AreNodesOf, next_core, done_line, rows_push, events_push}
 use Rattle.jet_core.proofs.collecting.collect.Goals as goal
@@ -60,7 +59,9 @@ pub returns : goal.returns
 returns g c = λ plan l.
     let i = c.loop-core.invariant in
     let none : length (into_iter_items c.loop-core.core-iterator) ≡ 0 = omega (arith, c.in-None.ensures.steps.0, c.loop-core.core-iterator.rest.ok) in
-    let all = sym (append-nil i.front) ∙ ap (λ cs. i.front ++ map (core_of {G = g.row.G.Denot}) cs) (sym (no_items (into_iter_items c.loop-core.core-iterator) none)) ∙ i.split in
+    let all =
+    sym (append-nil i.front) ∙ ap (λ cs. i.front ++ map (core_of {G = g.row.G.Denot}) cs)
+    (sym (nil_from_length (into_iter_items c.loop-core.core-iterator) none)) ∙ i.split in
     let line = done_line plan true (epochs_of plan.run) i.done _ c.args.line.joints.items l.stand (subst (λ cs. AreNodesOf i.done cs c.args.line.joints.items) all i.are) in
     let come = done_lines_come plan.run i.done l.cutting l.located line in
     record {

@@ -1,4 +1,5 @@
 use Rattle.std.proofs.Common.{◌≡◌, ◌+◌, List, [], ◌∷◌, ◌++◌, map, length, vec_len, length-append, append_assoc, ap, ap₂, sym, refl, subst, ◌∙◌, true, arith}
+use Rattle.std.proofs.lemmas.List.{length-map, map_push, nil_from_length}
 use Rattle.std.specs.List.{AllByRecursion}
 use Rattle.std.specs.Vec.Iter.{into_iter_items}
 use Rattle.epoch_cut.specs.Numbered.{NumberedEpoch}
@@ -7,10 +8,9 @@ use Rattle.checkpoints.specs.Points.{beginnings}
 use Rattle.epoch_node.specs.Cores.{CoreView, CanStart, core_of}
 use Rattle.epoch_layout.specs.Layouts.{CutRun, points_of}
 use Rattle.epoch_layout.proofs.Tickets.{all_can_start, some_epoch}
-use Rattle.epoch_layout.proofs.Layouts.{can_start, at_place, no_items}
+use Rattle.epoch_layout.proofs.Layouts.{can_start, at_place}
 use Rattle.jet_core.specs.declared.joints.Joint.{Joint}
 use Rattle.jet_core.specs.Lines.{new_cores}
-use Rattle.jet_core.proofs.Placing.{map_push, map_length}
 use Rattle.jet_core.proofs.Laying.{front_push, last_push, front_count, new_push, made_at, first_made}
 use Rattle.jet_core.proofs.line.lay_out.Goals as goal
 
@@ -37,7 +37,7 @@ loop-ticket-preserved g c =
     let rest = into_iter_items c.next.new.self in
     let split = ap (λ (es : List NumberedEpoch). i.done ++ (es ++ c.in-Some.last ∷ [])) (sym c.in-Some-ticket.ensures.steps.0) ∙ i.split in
     let count : vec_len c.loop-ticket.cores ≡ length i.done =
-    c.loop-ticket.cores.ok.0 ∙ sym (map_length (core_of {G = g.row.G.Denot}) c.loop-ticket.cores.items) ∙ ap length i.cores_are ∙ front_count run true i.done in
+    c.loop-ticket.cores.ok.0 ∙ sym (length-map c.loop-ticket.cores.items (core_of {G = g.row.G.Denot})) ∙ ap length i.cores_are ∙ front_count run true i.done in
     let made = c.in_ok-new.ensures.made ∙ made_at run c.args.checkpoints.now e _ _ _ refl c.requires.times (c.is_empty-first.ensures ∙ first_made i.done (vec_len c.loop-ticket.cores) count) in
     record {
       done = i.done ++ e ∷ [];
@@ -56,7 +56,8 @@ new-requires-2 g c =
     let i = c.loop-ticket.invariant in
     let e = c.in-Some.last in
     let none : length (into_iter_items c.loop-ticket.ticket-iterator) ≡ 0 = omega (arith, c.in-None.ensures.steps.0, c.loop-ticket.ticket-iterator.rest.ok) in
-    let split = ap (λ (es : List NumberedEpoch). i.done ++ (es ++ e ∷ [])) (sym (no_items (into_iter_items c.loop-ticket.ticket-iterator) none)) ∙ i.split in
+    let split =
+    ap (λ (es : List NumberedEpoch). i.done ++ (es ++ e ∷ [])) (sym (nil_from_length (into_iter_items c.loop-ticket.ticket-iterator) none)) ∙ i.split in
     can_start c.args.checkpoints.now (beginnings c.args.cuts) e c.requires.times
     (at_place (CanStart (points_of run)) i.done e [] (subst (AllByRecursion (CanStart (points_of run))) (sym split) (all_can_start run c.requires.cutting)))
 
@@ -66,12 +67,13 @@ returns g c =
     let i = c.loop-ticket.invariant in
     let e = c.in-Some.last in
     let none : length (into_iter_items c.loop-ticket.ticket-iterator) ≡ 0 = omega (arith, c.in-None.ensures.steps.0, c.loop-ticket.ticket-iterator.rest.ok) in
-    let split = ap (λ (es : List NumberedEpoch). i.done ++ (es ++ e ∷ [])) (sym (no_items (into_iter_items c.loop-ticket.ticket-iterator) none)) ∙ i.split in
+    let split =
+    ap (λ (es : List NumberedEpoch). i.done ++ (es ++ e ∷ [])) (sym (nil_from_length (into_iter_items c.loop-ticket.ticket-iterator) none)) ∙ i.split in
     let count : vec_len c.loop-ticket.cores ≡ length i.done =
-    c.loop-ticket.cores.ok.0 ∙ sym (map_length (core_of {G = g.row.G.Denot}) c.loop-ticket.cores.items) ∙ ap length i.cores_are ∙ front_count run true i.done in
+    c.loop-ticket.cores.ok.0 ∙ sym (length-map c.loop-ticket.cores.items (core_of {G = g.row.G.Denot})) ∙ ap length i.cores_are ∙ front_count run true i.done in
     let made = c.in_ok-new-3.ensures.made ∙ made_at run c.args.checkpoints.now e _ _ _ refl c.requires.times (c.is_empty-first-2.ensures ∙ first_made i.done (vec_len c.loop-ticket.cores) count) in
     let many : length (map (core_of {G = g.row.G.Denot}) c.push-2.new.self.items) ≡ length c.loop-ticket.cores.items + 1 =
-    map_length (core_of {G = g.row.G.Denot}) c.push-2.new.self.items ∙ ap length c.in_ok-push-4.ensures.items ∙ length-append c.loop-ticket.cores.items (c.in_ok-new-3.field-0 ∷ []) in
+    length-map c.push-2.new.self.items (core_of {G = g.row.G.Denot}) ∙ ap length c.in_ok-push-4.ensures.items ∙ length-append c.loop-ticket.cores.items (c.in_ok-new-3.field-0 ∷ []) in
     let same = c.loop-ticket.cores.ok.0 in
     record {
       cutting = c.requires.cutting;

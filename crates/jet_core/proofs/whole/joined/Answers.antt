@@ -18,7 +18,7 @@ pub found_at_once-requires-after_bounds : goal.found_at_once-requires-after_boun
 found_at_once-requires-after_bounds g c κs within =
     subst (λ (points : CheckpointsAt). All (BeginsAt points) c.in_ok-tickets.tickets.items) (sym c.in_ok-checkpoints.ensures)
     (subst (λ (ts : List NumberedEpoch). All (BeginsAt (record { job = c.args.job.now; times = beginnings c.args.cuts })) ts) (sym c.in_ok-tickets.ensures)
-    (tickets_begin c.args.job.now c.args.cuts c.requires))
+    (tickets_begin (record { job = c.args.job.now; query = c.args.query.now; cuts = c.args.cuts }) c.requires))
 
 pub crossings-requires : goal.crossings-requires
 crossings-requires g c =

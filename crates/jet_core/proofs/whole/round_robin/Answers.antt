@@ -7,22 +7,21 @@ pub round_robin-requires-after_bounds : goal.round_robin-requires-after_bounds
 round_robin-requires-after_bounds g c κs within =
     at_beginnings c.args.job.now c.args.query.now c.args.cuts c.in_ok-checkpoints.checkpoints c.in_ok-checkpoints.ensures c.requires.cuts
 
-pub answer_with-requires-clause-rows : goal.answer_with-requires-clause-rows
-answer_with-requires-clause-rows g c =
+pub answer_with-requires : goal.answer_with-requires
+answer_with-requires g c =
     let is = collected_of_job c.args.job.now c.args.query.now c.args.cuts c.in_ok-checkpoints.checkpoints c.in_ok-checkpoints.ensures c.in_ok-collected.collected c.in_ok-collected.ensures in
-    is.rows
+    record {
+      rows = is.rows;
+      few =
+          few_asked c.args.job.now c.args.query.now c.args.cuts c.in_ok-collected.collected is
+          (omega (arith, c.count-count.ensures.is, c.count-count.ensures.in_range));
+    }
 
-pub answer_with-requires-clause-few : goal.answer_with-requires-clause-few
-answer_with-requires-clause-few g c =
+pub returns : goal.returns
+returns g c =
     let is = collected_of_job c.args.job.now c.args.query.now c.args.cuts c.in_ok-checkpoints.checkpoints c.in_ok-checkpoints.ensures c.in_ok-collected.collected c.in_ok-collected.ensures in
-    few_asked c.args.job.now c.args.query.now c.args.cuts c.in_ok-collected.collected is (omega (arith, c.count-count.ensures.is, c.count-count.ensures.in_range))
-
-pub returns-clause-crossed : goal.returns-clause-crossed
-returns-clause-crossed g c =
-    let is = collected_of_job c.args.job.now c.args.query.now c.args.cuts c.in_ok-checkpoints.checkpoints c.in_ok-checkpoints.ensures c.in_ok-collected.collected c.in_ok-collected.ensures in
-    c.in_ok-report.ensures.crossed ∙ ap (numbered 1) is.crossed
-
-pub returns-clause-events : goal.returns-clause-events
-returns-clause-events g c =
-    let is = collected_of_job c.args.job.now c.args.query.now c.args.cuts c.in_ok-checkpoints.checkpoints c.in_ok-checkpoints.ensures c.in_ok-collected.collected c.in_ok-collected.ensures in
-    c.in_ok-report.ensures.events ∙ is.events
+    record {
+      report = c.in_ok-report.ensures.report;
+      crossed = c.in_ok-report.ensures.crossed ∙ ap (numbered 1) is.crossed;
+      events = c.in_ok-report.ensures.events ∙ is.events;
+    }
