@@ -4,7 +4,7 @@ use Rattle.std.specs.Int.{w32, to_le_bytes}
 use Rattle.std.proofs.lemmas.Bool.{cases_lt}
 use Rattle.std.proofs.lemmas.List.{get_or_append_left, get_or-append_right, nil_from_length}
 use Rattle.isa.specs.declared.Instr.{Instr}
-use Rattle.isa.specs.declared.Instr.TheVariants.{Lui, Auipc, Jal, Jalr, Beq, Bne, Blt, Bge, Bltu, Bgeu, Lb, Lh, Lw, Lbu, Lhu, Sb, Sh, Sw, Addi, Slti, Sltiu, Xori, Ori, Andi, Slli, Srli, Srai, Add, Sub, Sll, Slt, Sltu, Xor, Srl, Sra, Or, And, Mul, Mulh, Mulhsu, Mulhu, Div, Divu, Rem, Remu, Fence, Ecall, Ebreak}
+use Rattle.isa.specs.declared.Instr.TheVariants.{Lui, Ecall}
 use Rattle.isa.specs.declared.Effect.{Effect}
 use Rattle.isa.specs.declared.Effect.TheVariants.{SetRegister, Jump, Branch, Load, Store, MoveOn, EnvironmentCall, Breakpoint}
 use Rattle.isa.specs.declared.Call.{Call}
@@ -94,13 +94,7 @@ put s t a n bytes few h base memory = by (cases_lt 0 n)
 
 size_of : Effect → ℕ
 size_of (Store a n v) = n
-size_of (SetRegister d v) = 0
-size_of (Jump d target) = 0
-size_of (Branch taken target) = 0
-size_of (Load d a n is_signed) = 0
-size_of MoveOn = 0
-size_of EnvironmentCall = 0
-size_of Breakpoint = 0
+size_of e = 0
 
 -- where an outcome leaves a state, Q is true of it
 abbrev Leaves : Outcome → (State → Type 0) → Type 0
@@ -138,53 +132,7 @@ execute_changes s Breakpoint = tt
 stored_is : (s : State) (i : Instr) → size_of (effect_of s i) ≡ stored_size i
 unfolding size_of
 stored_is s (Lui d imm) = refl
-stored_is s (Auipc d imm) = refl
-stored_is s (Jal d imm) = refl
-stored_is s (Jalr d a imm) = refl
-stored_is s (Beq a b imm) = refl
-stored_is s (Bne a b imm) = refl
-stored_is s (Blt a b imm) = refl
-stored_is s (Bge a b imm) = refl
-stored_is s (Bltu a b imm) = refl
-stored_is s (Bgeu a b imm) = refl
-stored_is s (Lb d a imm) = refl
-stored_is s (Lh d a imm) = refl
-stored_is s (Lw d a imm) = refl
-stored_is s (Lbu d a imm) = refl
-stored_is s (Lhu d a imm) = refl
-stored_is s (Sb a b imm) = refl
-stored_is s (Sh a b imm) = refl
-stored_is s (Sw a b imm) = refl
-stored_is s (Addi d a imm) = refl
-stored_is s (Slti d a imm) = refl
-stored_is s (Sltiu d a imm) = refl
-stored_is s (Xori d a imm) = refl
-stored_is s (Ori d a imm) = refl
-stored_is s (Andi d a imm) = refl
-stored_is s (Slli d a k) = refl
-stored_is s (Srli d a k) = refl
-stored_is s (Srai d a k) = refl
-stored_is s (Add d a b) = refl
-stored_is s (Sub d a b) = refl
-stored_is s (Sll d a b) = refl
-stored_is s (Slt d a b) = refl
-stored_is s (Sltu d a b) = refl
-stored_is s (Xor d a b) = refl
-stored_is s (Srl d a b) = refl
-stored_is s (Sra d a b) = refl
-stored_is s (Or d a b) = refl
-stored_is s (And d a b) = refl
-stored_is s (Mul d a b) = refl
-stored_is s (Mulh d a b) = refl
-stored_is s (Mulhsu d a b) = refl
-stored_is s (Mulhu d a b) = refl
-stored_is s (Div d a b) = refl
-stored_is s (Divu d a b) = refl
-stored_is s (Rem d a b) = refl
-stored_is s (Remu d a b) = refl
-stored_is s (Fence kept) = refl
-stored_is s Ecall = refl
-stored_is s Ebreak = refl
+stored_is s i = refl
 
 plain_changes : (time : ℕ) (s t : State) (f : Fetch) → outcome_of s f ≡ Retired t → Changes s t (written (plain_step time s f))
 plain_changes time s t OutsideWindow e = cc

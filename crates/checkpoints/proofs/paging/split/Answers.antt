@@ -59,20 +59,14 @@ number_at-requires-clause-some c =
 pub returns-in_err-number-clause-extended : goal.returns-in_err-number-clause-extended
 returns-in_err-number-clause-extended c = extended_twice c.args.pages.now c.loop-place.pages c.number_at.new.pages c.loop-place.invariant.extended c.number_at.ensures.extended
 
-pub returns-clause-below : goal.returns-clause-below
-returns-clause-below c = c.loop-place.invariant.below
-
-pub returns-clause-paged : goal.returns-clause-paged
-returns-clause-paged c others =
+pub returns : goal.returns
+returns c =
     let so_far = c.loop-place.invariant in
     let all = all_places c.args.bytes.now c.div_ceil-count.result c.loop-place.place c.div_ceil-count.ensures c.loop-place-test.false c.loop-place.auto.place-end in
-    record { count = so_far.long ∙ all; each = λ k h. so_far.each others k (subst (λ (n : ℕ). k < n) so_far.long h) }
-
-pub returns-clause-extended : goal.returns-clause-extended
-returns-clause-extended c = c.loop-place.invariant.extended
-
-pub returns-clause-count : goal.returns-clause-count
-returns-clause-count c window others are =
-    let bytes = c.args.bytes.now in
-    let all = all_places bytes c.div_ceil-count.result c.loop-place.place c.div_ceil-count.ensures c.loop-place-test.false c.loop-place.auto.place-end in
-    c.loop-place.invariant.count window others are ∙ ap (λ (n : ℕ). length c.args.pages.now + changed_among n window bytes) all
+    record {
+      below = so_far.below;
+      paged = λ others. record { count = so_far.long ∙ all; each = λ k h. so_far.each others k (subst (λ (n : ℕ). k < n) so_far.long h) };
+      extended = so_far.extended;
+      count = λ window others are.
+          so_far.count window others are ∙ ap (λ (n : ℕ). length c.args.pages.now + changed_among n window c.args.bytes.now) all;
+    }

@@ -11,55 +11,43 @@ use Rattle.checkpoints.specs.Points.{CheckpointsAt, CheckpointAt, time_of}
 use Rattle.checkpoints.proofs.Holding.{index_below, checkpoint_at, numbers_below, size_again, saved_again}
 use Rattle.checkpoints.proofs.checkpoints.Checkpoints.start.Goals as goal
 
-pub returns-clause-time : goal.returns-clause-time
-returns-clause-time c =
+pub returns : goal.returns
+returns c =
     let points = c.self.inside.points.items in
     let point = c.index-point.result.now in
     let times : map time_of points ≡ c.args.self.now.times = ap (λ (p : CheckpointsAt). p.times) c.self.view_is in
     let below : c.args.k < length points = omega (arith, c.requires, ap length times, length-map points time_of) in
-    ap (λ ts. slice_get ts c.args.k) (sym times)
-    ∙ slice_get-map time_of points c.args.k
-    ∙ ap (option_map time_of) (slice_get-get_or points c.args.k point below)
-    ∙ ap (λ (p : CheckpointAt). Some (time_of p)) (sym c.index-point.ensures ∙ sym c.point.view_is)
-    ∙ ap (λ (s : SavedCursor). Some s.counters.time) (sym c.whole.ensures)
-    ∙ ap (λ (p : CursorAt). Some p.time) (sym c.from-cursor.ensures ∙ sym c.keep_decoded.ensures)
+    record {
+      job = ap (λ (p : CursorAt). p.job) (c.in_ok-keep_decoded.ensures ∙ c.from-cursor.ensures) ∙ ap (λ (p : CheckpointsAt). p.job) c.self.view_is;
+      time =
+          ap (λ ts. slice_get ts c.args.k) (sym times)
+          ∙ slice_get-map time_of points c.args.k
+          ∙ ap (option_map time_of) (slice_get-get_or points c.args.k point below)
+          ∙ ap (λ (p : CheckpointAt). Some (time_of p)) (sym c.index-point.ensures ∙ sym c.point.view_is)
+          ∙ ap (λ (s : SavedCursor). Some s.counters.time) (sym c.whole.ensures)
+          ∙ ap (λ (p : CursorAt). Some p.time) (sym c.from-cursor.ensures ∙ sym c.keep_decoded.ensures);
+    }
 
 pub join-requires : goal.join-requires
 join-requires c =
-    let fields = c.point.inside in
-    let point : CheckpointAt = record { numbers = fields.numbers.items; rest = fields.rest } in
     let pages = c.self.inside.pages in
-    let points = c.self.inside.points.items in
-    let job = c.self.inside.job.now in
-    let below = index_below job points c.args.self.now c.args.k c.self.view_is c.requires in
-    let here = checkpoint_at job pages points c.args.k point c.index-point.result.now c.self.invariant below c.index-point.ensures c.point.view_is in
-    subst (All (λ (number : ℕ). number < length pages)) (sym c.as_slice.ensures.value) (numbers_below pages point.numbers here.saved.machine.memory here.paged)
+    let below = index_below _ _ _ _ c.self.view_is c.requires in
+    let here = checkpoint_at _ pages _ _ _ _ c.self.invariant below c.index-point.ensures c.point.view_is in
+    subst (All (λ (number : ℕ). number < length pages)) (sym c.as_slice.ensures.value) (numbers_below pages _ _ here.paged)
 
 pub whole-requires : goal.whole-requires
 whole-requires c =
-    let fields = c.point.inside in
-    let point : CheckpointAt = record { numbers = fields.numbers.items; rest = fields.rest } in
     let pages = c.self.inside.pages in
-    let points = c.self.inside.points.items in
-    let job = c.self.inside.job.now in
-    let below = index_below job points c.args.self.now c.args.k c.self.view_is c.requires in
-    let here = checkpoint_at job pages points c.args.k point c.index-point.result.now c.self.invariant below c.index-point.ensures c.point.view_is in
-    size_again job pages point here c.in_ok-bytes.bytes.items
+    let below = index_below _ _ _ _ c.self.view_is c.requires in
+    let here = checkpoint_at _ pages _ _ _ _ c.self.invariant below c.index-point.ensures c.point.view_is in
+    size_again _ pages _ here c.in_ok-bytes.bytes.items
     (λ window are. c.in_ok-bytes.ensures window (subst (λ (numbers : List ℕ). ArePagesOf pages numbers window) (sym c.as_slice.ensures.value) are))
 
 pub from-cursor-requires : goal.from-cursor-requires
 from-cursor-requires c =
-    let fields = c.point.inside in
-    let point : CheckpointAt = record { numbers = fields.numbers.items; rest = fields.rest } in
     let pages = c.self.inside.pages in
-    let points = c.self.inside.points.items in
-    let job = c.self.inside.job.now in
-    let below = index_below job points c.args.self.now c.args.k c.self.view_is c.requires in
-    let here = checkpoint_at job pages points c.args.k point c.index-point.result.now c.self.invariant below c.index-point.ensures c.point.view_is in
-    let again = saved_again job pages point here c.in_ok-bytes.bytes.items
+    let below = index_below _ _ _ _ c.self.view_is c.requires in
+    let here = checkpoint_at _ pages _ _ _ _ c.self.invariant below c.index-point.ensures c.point.view_is in
+    let again = saved_again _ pages _ here c.in_ok-bytes.bytes.items
     (λ window are. c.in_ok-bytes.ensures window (subst (λ (numbers : List ℕ). ArePagesOf pages numbers window) (sym c.as_slice.ensures.value) are)) in
-    subst (IsOfJob job) (sym (c.whole.ensures ∙ again)) here.of_job
-
-pub returns-clause-job : goal.returns-clause-job
-returns-clause-job c =
-    ap (λ (p : CursorAt). p.job) (c.in_ok-keep_decoded.ensures ∙ c.from-cursor.ensures) ∙ ap (λ (p : CheckpointsAt). p.job) c.self.view_is
+    subst (IsOfJob c.self.inside.job.now) (sym (c.whole.ensures ∙ again)) here.of_job
