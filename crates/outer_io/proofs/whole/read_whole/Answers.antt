@@ -1,10 +1,10 @@
-use Rattle.std.proofs.Common.{rules, arith, ◌≡◌, ◌≤◌, [], ◌++◌, ◌∙◌, ap, refl, ℕ, Bool, ◌+◌, List, length, take, drop, length-append, length-take, length-drop}
+use Rattle.std.proofs.Common.{rules, arith, ◌≡◌, ◌≤◌, [], ◌++◌, ◌∙◌, ap, refl, ℕ, Bool, List, length, take, drop, length-append, length-take, length-drop}
 use Rattle.std.proofs.lemmas.List.{take-append-le}
 use Rattle.std.proofs.lemmas.Result.{err_from_is_err_and}
 use Rattle.outer_io.specs.Files.{KeepsFiles, TakesNone, Takes, BeginsRead}
 use Rattle.outer_io.specs.ReadWhole.{IsLonger, HasContent, TakesAtMost}
 use Rattle.outer_io.proofs.TellsLemmas.{tells-then, tells-map, rose-earlier}
-use Rattle.outer_io.proofs.Reading.{IsReading, begins, reads_on, ends, is_longer, most-none, most-begun, most-read, most-failed, most-taken, reads-on, comes-on, no-cause}
+use Rattle.outer_io.proofs.Reading.{IsReading, begins, reads_on, ends, is_longer, most-none, most-read, most-failed, told-most, reads-on, comes-on, no-cause}
 use Rattle.outer_io.proofs.whole.read_whole.Goals as goal
 
 pub loop-piece-init : goal.loop-piece-init
@@ -93,26 +93,6 @@ returns-in_err-extend_from_slice-clause-cause g c =
 
 -- ---- the calls that were made
 
-pub returns-in_default-clause-reads : goal.returns-in_default-clause-reads
-returns-in_default-clause-reads g c = record {
-  keeps = tells-map _ _ TakesNone KeepsFiles (λ x y p. p.keeps) c.in_default.ensures.err;
-  opened = c.begin_read.ensures.opened;
-  later = c.begin_read.ensures.cause.later;
-}
-
-pub returns-in_err-buffer-clause-reads : goal.returns-in_err-buffer-clause-reads
-returns-in_err-buffer-clause-reads g c = record {
-  keeps = tells-map _ _ (BeginsRead c.args.name.now) KeepsFiles (λ x y p. p.keeps) c.in-Ok.ensures.ok;
-  opened = c.begin_read.ensures.opened;
-  later = c.begin_read.ensures.cause.later;
-}
-
-pub returns-in_default-clause-pieces : goal.returns-in_default-clause-pieces
-returns-in_default-clause-pieces g c = record { begun = _; went = _; begins_so = c.begin_read.ensures.gives; calls = []; are_reads = refl }
-
-pub returns-in_err-buffer-clause-pieces : goal.returns-in_err-buffer-clause-pieces
-returns-in_err-buffer-clause-pieces g c = record { begun = _; went = _; begins_so = c.begin_read.ensures.gives; calls = []; are_reads = refl }
-
 pub returns-in_default-read-clause-reads : goal.returns-in_default-read-clause-reads
 returns-in_default-read-clause-reads g c =
     reads-on TakesNone (λ x y p. p.keeps) c.loop-piece.invariant.reads c.in_default-read.ensures.err c.read.ensures.opened c.read.ensures.cause.later
@@ -139,110 +119,23 @@ returns-in_err-extend_from_slice-clause-pieces g c =
 
 -- ---- at most one byte more than allowed is taken
 
-pub returns-in_default-clause-most : goal.returns-in_default-clause-most
-returns-in_default-clause-most g c =
-    let name = c.args.name.now in
-    tells-map (g.S.Store.shown c.args.store.now).files (g.S.Store.shown c.begin_read.new.self).files
-    TakesNone (TakesAtMost name (c.args.max + 1)) (most-none name (c.args.max + 1)) c.in_default.ensures.err
-
-pub returns-in_err-buffer-clause-most : goal.returns-in_err-buffer-clause-most
-returns-in_err-buffer-clause-most g c =
-    let name = c.args.name.now in
-    tells-map (g.S.Store.shown c.args.store.now).files (g.S.Store.shown c.begin_read.new.self).files
-    (BeginsRead name) (TakesAtMost name (c.args.max + 1)) (most-begun name (c.args.max + 1)) c.in-Ok.ensures.ok
-
 pub returns-in_default-read-clause-most : goal.returns-in_default-read-clause-most
 returns-in_default-read-clause-most g c =
-    let name = c.args.name.now in
     let w = c.loop-piece.invariant in
-    tells-then (g.S.Store.shown c.args.store.now).files (g.S.Store.shown c.loop-piece.store).files (g.S.Store.shown c.read.new.self).files
-    (IsReading name c.loop-piece.bytes.items) TakesNone (TakesAtMost name (c.args.max + 1))
-    (λ x y z. most-failed name c.loop-piece.bytes.items (c.args.max + 1) x y z w.small) w.told c.in_default-read.ensures.err
+    tells-then _ _ _ (IsReading c.args.name.now c.loop-piece.bytes.items) TakesNone _
+    (λ x y z. most-failed c.args.name.now c.loop-piece.bytes.items _ x y z w.small) w.told c.in_default-read.ensures.err
 
 pub returns-then-count-eq0-clause-most : goal.returns-then-count-eq0-clause-most
 returns-then-count-eq0-clause-most g c =
-    let name = c.args.name.now in
-    let w = c.loop-piece.invariant in
-    let got : List ℕ = take c.in-Ok-read.count c.read.new.into in
-    let few : length c.loop-piece.bytes.items + length got ≤ c.args.max + 1 =
-    omega (arith, w.small, length-take c.in-Ok-read.count c.read.new.into, c.in-Ok-read.ensures.count, length-take c.min-room.result c.loop-piece.piece) in
-    tells-then (g.S.Store.shown c.args.store.now).files (g.S.Store.shown c.loop-piece.store).files (g.S.Store.shown c.read.new.self).files
-    (IsReading name c.loop-piece.bytes.items) (Takes _ got) (TakesAtMost name (c.args.max + 1))
-    (λ x y z. most-taken name c.loop-piece.bytes.items got _ (c.args.max + 1) x y z few) w.told c.in-Ok-read.ensures.ok
+    told-most c.args.name.now c.loop-piece.bytes.items c.read.new.into c.in-Ok-read.count _ _ _ _ _ c.loop-piece.invariant.told c.in-Ok-read.ensures.ok
+    (omega (arith, c.in-Ok-read.ensures.count, length-take c.min-room.result c.loop-piece.piece))
 
 pub returns-in_err-extend_from_slice-clause-most : goal.returns-in_err-extend_from_slice-clause-most
 returns-in_err-extend_from_slice-clause-most g c =
-    let name = c.args.name.now in
-    let w = c.loop-piece.invariant in
-    let got : List ℕ = take c.in-Ok-read.count c.read.new.into in
-    let few : length c.loop-piece.bytes.items + length got ≤ c.args.max + 1 =
-    omega (arith, w.small, length-take c.in-Ok-read.count c.read.new.into, c.in-Ok-read.ensures.count, length-take c.min-room.result c.loop-piece.piece) in
-    tells-then (g.S.Store.shown c.args.store.now).files (g.S.Store.shown c.loop-piece.store).files (g.S.Store.shown c.read.new.self).files
-    (IsReading name c.loop-piece.bytes.items) (Takes _ got) (TakesAtMost name (c.args.max + 1))
-    (λ x y z. most-taken name c.loop-piece.bytes.items got _ (c.args.max + 1) x y z few) w.told c.in-Ok-read.ensures.ok
+    told-most c.args.name.now c.loop-piece.bytes.items c.read.new.into c.in-Ok-read.count _ _ _ _ _ c.loop-piece.invariant.told c.in-Ok-read.ensures.ok
+    (omega (arith, c.in-Ok-read.ensures.count, length-take c.min-room.result c.loop-piece.piece))
 
 pub returns-clause-most : goal.returns-clause-most
 returns-clause-most g c =
-    let name = c.args.name.now in
-    let w = c.loop-piece.invariant in
-    tells-map (g.S.Store.shown c.args.store.now).files (g.S.Store.shown c.loop-piece.store).files
-    (IsReading name c.loop-piece.bytes.items) (TakesAtMost name (c.args.max + 1))
-    (λ x y. most-read name c.loop-piece.bytes.items (c.args.max + 1) x y w.small) w.told
-
--- ---- what holds of the other answer, and what was made
-
-pub returns-in_default-clause-short : goal.returns-in_default-clause-short
-returns-in_default-clause-short g c = tt
-
-pub returns-in_default-clause-content : goal.returns-in_default-clause-content
-returns-in_default-clause-content g c = tt
-
-pub returns-in_default-clause-created : goal.returns-in_default-clause-created
-returns-in_default-clause-created g c = c.begin_read.ensures.created
-
-pub returns-in_err-buffer-clause-created : goal.returns-in_err-buffer-clause-created
-returns-in_err-buffer-clause-created g c = c.begin_read.ensures.created
-
-pub returns-in_default-read-clause-short : goal.returns-in_default-read-clause-short
-returns-in_default-read-clause-short g c = tt
-
-pub returns-in_default-read-clause-content : goal.returns-in_default-read-clause-content
-returns-in_default-read-clause-content g c = tt
-
-pub returns-in_default-read-clause-created : goal.returns-in_default-read-clause-created
-returns-in_default-read-clause-created g c = ◌∙◌ {A = Bool} c.read.ensures.created c.loop-piece.invariant.created
-
-pub returns-then-count-eq0-clause-cause : goal.returns-then-count-eq0-clause-cause
-returns-then-count-eq0-clause-cause g c = tt
-
-pub returns-then-count-eq0-clause-created : goal.returns-then-count-eq0-clause-created
-returns-then-count-eq0-clause-created g c = ◌∙◌ {A = Bool} c.in-Ok-read.ensures.created c.loop-piece.invariant.created
-
-pub returns-clause-short : goal.returns-clause-short
-returns-clause-short g c = tt
-
-pub returns-clause-content : goal.returns-clause-content
-returns-clause-content g c = tt
-
-pub returns-clause-pieces : goal.returns-clause-pieces
-returns-clause-pieces g c = c.loop-piece.invariant.pieces
-
-pub returns-clause-reads : goal.returns-clause-reads
-returns-clause-reads g c = c.loop-piece.invariant.reads
-
-pub returns-clause-created : goal.returns-clause-created
-returns-clause-created g c = c.loop-piece.invariant.created
-
--- ---- no call failed
-
-pub returns-in_default-clause-stood : goal.returns-in_default-clause-stood
-returns-in_default-clause-stood g c = tt
-
-pub returns-in_default-read-clause-stood : goal.returns-in_default-read-clause-stood
-returns-in_default-read-clause-stood g c = tt
-
-pub returns-then-count-eq0-clause-stood : goal.returns-then-count-eq0-clause-stood
-returns-then-count-eq0-clause-stood g c = ◌∙◌ {A = ℕ} (c.in-Ok-read.ensures.cause.stood refl) c.loop-piece.invariant.stood
-
-pub returns-clause-stood : goal.returns-clause-stood
-returns-clause-stood g c = tt
+    tells-map _ _ (IsReading c.args.name.now c.loop-piece.bytes.items) _
+    (λ x y. most-read c.args.name.now c.loop-piece.bytes.items _ x y c.loop-piece.invariant.small) c.loop-piece.invariant.told
