@@ -1,4 +1,3 @@
-mod Choices
 mod Ranges
 mod Taken
 mod Examples
