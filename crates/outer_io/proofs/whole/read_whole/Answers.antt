@@ -1,6 +1,5 @@
 use Rattle.std.proofs.Common.{rules, arith, ◌≡◌, ◌≤◌, [], ◌++◌, ◌∙◌, ap, refl, ℕ, Bool, List, length, take, drop, length-append, length-take, length-drop}
 use Rattle.std.proofs.lemmas.List.{take-append-le}
-use Rattle.std.proofs.lemmas.Result.{err_from_is_err_and}
 use Rattle.outer_io.specs.Files.{KeepsFiles, TakesNone, Takes, BeginsRead}
 use Rattle.outer_io.specs.ReadWhole.{IsLonger, HasContent, TakesAtMost}
 use Rattle.outer_io.proofs.TellsLemmas.{tells-then, tells-map, rose-earlier}
@@ -82,14 +81,11 @@ returns-in_default-read-clause-cause g c =
 -- ---- out of memory
 
 pub returns-in_err-buffer-clause-cause : goal.returns-in_err-buffer-clause-cause
-returns-in_err-buffer-clause-cause g c =
-    let p = err_from_is_err_and c.from_residual.result c.from_residual.ensures.1 in
-    rw p.1 (no-cause _ p.0 p.2)
+returns-in_err-buffer-clause-cause g c = no-cause _ c.from_residual.result c.from_residual.ensures.1
 
 pub returns-in_err-extend_from_slice-clause-cause : goal.returns-in_err-extend_from_slice-clause-cause
 returns-in_err-extend_from_slice-clause-cause g c =
-    let p = err_from_is_err_and c.from_residual-in_err-extend_from_slice.result c.from_residual-in_err-extend_from_slice.ensures.1 in
-    rw p.1 (no-cause _ p.0 p.2)
+    no-cause _ c.from_residual-in_err-extend_from_slice.result c.from_residual-in_err-extend_from_slice.ensures.1
 
 -- ---- the calls that were made
 
