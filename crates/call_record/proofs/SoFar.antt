@@ -1,13 +1,11 @@
 -- A recording so far, as it goes on step by step.
-use Rattle.std.proofs.Common.{◌≡◌, ℕ, zero, suc, ◌+◌, ◌-◌, ◌*◌, ◌^◌, ◌<◌, ◌≤◌, ◌⊎◌, inl, inr, Bool, false, List, [], ◌∷◌, ◌++◌, length, get_or, replicate, Option, Some, None, Result, Ok, Err, refl, arith, ap, sym, ◌∙◌, subst, append-nil}
+use Rattle.std.proofs.Common.{◌≡◌, ℕ, zero, suc, ◌+◌, ◌-◌, ◌*◌, ◌^◌, ◌<◌, ◌≤◌, ◌⊎◌, inl, inr, Bool, false, List, [], ◌∷◌, ◌++◌, length, get_or, replicate, Option, None, Result, Ok, Err, refl, arith, ap, sym, ◌∙◌, subst}
 use Rattle.std.specs.Result.{OnErr}
 use Rattle.std.specs.List.{sum_by}
 use Rattle.std.proofs.lemmas.List.{length-map}
-use Rattle.std.proofs.lemmas.List.Sums.{sum_by-append, sum_by-cons}
-use Rattle.std.proofs.lemmas.Bool.{cases_lt}
-use Rattle.isa.specs.Machine.{State, reg, call_of, overwritten}
+use Rattle.std.proofs.lemmas.List.Sums.{sum_by_push}
+use Rattle.isa.specs.Machine.{State, reg, call_of}
 use Rattle.isa.specs.Calls.{buffer_of}
-use Rattle.isa.proofs.Window.{length-overwritten, window_start}
 use Rattle.log_model.specs.declared.CallRecord.{CallRecord}
 use Rattle.log_model.specs.declared.CallRecord.TheVariants.{Read}
 use Rattle.log_model.specs.declared.RunEnd.{RunEnd}
@@ -16,11 +14,11 @@ use Rattle.log_model.specs.Logs.{Log, IsRecord, IsEnd, end_at, share}
 use Rattle.log_model.specs.Moved.{received, received_by}
 use Rattle.replay_model.specs.Run.{state_after}
 use Rattle.replay_model.specs.Comparison.{divergence}
-use Rattle.replay_model.proofs.Transfers.{read_held, window_end}
 use Rattle.record_model.specs.Recorded.{clock_values, EndsWithin}
 use Rattle.record_model.specs.Calls.{record_at, EndsIn}
 use Rattle.record_model.proofs.Calls.{next_record, IsHere, next_here}
 use Rattle.record_model.proofs.Pushes.{values_push}
+use Rattle.record_model.proofs.Sound.{length-room, read_room}
 use Rattle.record_model.specs.Counts.{capped}
 use Rattle.log_model.proofs.Moved.{length-received-push}
 use Rattle.record_model.proofs.Fronts.{received-within}
@@ -28,7 +26,7 @@ use Rattle.record_model.proofs.Runs.{RunsTo, runs_none, runs_plain, runs_call, r
 use Rattle.rv_machine.specs.Hart.{Hart, running}
 use Rattle.rv_machine.specs.Running.{Tells as TellsOf, Wants, IsFollowed, Begun, Then}
 use Rattle.outer_io.specs.Tells.{Tells, Gains}
-use Rattle.outer_io.proofs.TellsLemmas.{tells-gains, tells-gains-none}
+use Rattle.outer_io.proofs.TellsLemmas.{tells-gains, tells-gains-none, tells-nothing}
 use Rattle.call_record.specs.Sources.{contents}
 use Rattle.call_record.specs.Tapes.{Holds, Adds}
 use Rattle.call_record.specs.Steps.{Point, point_of, IsSafe, due_record, IsPlain, IsCall, GoesOn, Stops, Gained}
@@ -37,7 +35,7 @@ use Rattle.call_record.specs.declared.source.Source.{Source}
 use Rattle.call_record.specs.declared.tape.Tape.{Tape}
 use Rattle.call_record.specs.declared.recorder.Recorder.{Recorder}
 use Rattle.call_record.proofs.Counts.{capped_small, capped_add}
-use Rattle.call_record.proofs.Windows.{overwritten_none, step_keeps}
+use Rattle.call_record.proofs.Windows.{step_keeps}
 
 -- the first t steps of a run that begins in a state are recorded
 pub record IsSoFar (start : State) (source : Source) (told : Option (List ℕ)) (t : ℕ) (r : Recorder)
@@ -59,14 +57,10 @@ pub record IsRunning (start : State) (source : Source) (told : Option (List ℕ)
 
 -- ---- the start
 
-pub tells_none : (told : Option (List ℕ)) → Tells told told (Gains [])
-tells_none None = tt
-tells_none (Some answers) = sym (append-nil answers)
-
 -- a call that failed, and did not ask the clock
 pub gained_none : {T E : Type 0} (result : Result T E) (told : Option (List ℕ)) → OnErr result (Gained told told)
 gained_none (Ok answer) told = tt
-gained_none (Err error) told = record { values = []; gained = tells_none told }
+gained_none (Err error) told = record { values = []; gained = tells-nothing told }
 
 zeros : (n c : ℕ) → get_or {A = ℕ} (replicate {A = ℕ} n 0) c 0 ≡ 0
 zeros zero c = refl
@@ -91,7 +85,7 @@ so_far_none source r told few fresh goes_on window =
       counts = none;
       goes_on = goes_on;
       safe = record { window = window; within = λ c. let zero = none c in omega arith };
-      gained = tells_none told;
+      gained = tells-nothing told;
     }
 
 -- ---- a plain step
@@ -133,7 +127,7 @@ module _ {W : Type 0} {heard : TellsOf W} {wants : Wants W} {start : State} {sou
       let more : t + n + 1 ≡ t + suc n = omega arith in
       let plain : IsPlain [] (point_of (at_state r s)) (at_state r after) = record { retired = step.retired; goes_on = refl; counts = refl; tape = refl; no_values = refl } in
       subst (λ (n : ℕ). IsSoFar start source told n (at_state r after) told_now) more
-      (plain_more (row before) (tells_none told_now) plain)
+      (plain_more (row before) (tells-nothing told_now) plain)
 
   pub so_far_row : {n : ℕ} (after : Hart) {w : W} → IsFollowed heard wants r.machine.state was n after.state w → after.waits ≡ false
       → IsSoFar start source told (t + n) (record r { machine = after }) told_now
@@ -143,37 +137,18 @@ module _ {W : Type 0} {heard : TellsOf W} {wants : Wants W} {start : State} {sou
 
 -- ---- a call
 
-read_window : (s : State) (place : ℕ) (bytes : List ℕ)
-    → (0 < length bytes → (s.base ≤ place) × (place + length bytes ≤ s.base + length s.memory))
-    → (0 < length bytes) ⊎ (length bytes ≤ 0) → length (overwritten s.memory (place - s.base) bytes) ≡ length s.memory
-read_window s place bytes held (inl some) =
-    let above = (held some).0 in
-    let below = (held some).1 in
-    length-overwritten s.memory (place - s.base) bytes (omega arith)
-read_window s place bytes held (inr none) = overwritten_none s.memory (place - s.base) bytes (omega arith)
-
 window_after : (inputs : List (List ℕ)) (piece : ℕ) (before : List CallRecord) (t : ℕ) (s : State) (r : CallRecord)
     → IsHere inputs piece before t s r → length (state_after s r).memory ≡ length s.memory
 window_after inputs piece before t s (Read at args result bytes) here =
-    read_window s (buffer_of args) bytes (λ h.
-    let held = read_held s (length inputs) at args result bytes here.form here.lawful h in
-    let buffer = held.buffer in
-    let above = window_start s (reg s 11) (length bytes) held.held in
-    let below = window_end s (reg s 11) (length bytes) held.held in
-    (omega arith, omega arith)) (cases_lt 0 (length bytes))
+    length-room s (buffer_of args) bytes (read_room s (length inputs) at args result bytes here.form here.lawful)
 window_after inputs piece before t s r here = refl
-
-shares_push : (inputs : ℕ) (rs : List CallRecord) (r : CallRecord)
-    → sum_by (share inputs) (rs ++ r ∷ []) ≡ sum_by (share inputs) rs + share inputs r
-shares_push inputs rs r = omega
-    (arith, sum_by-append (share inputs) rs (r ∷ []), sum_by-cons (share inputs) r [])
 
 holds_more : (before after : Tape) (records : List CallRecord) (r : CallRecord) → Holds before records
     → Adds before r after → Holds after (records ++ r ∷ [])
 holds_more before after records r holds adds =
     let inputs = before.inputs in
     let all : 48 + 4 * inputs + sum_by (share inputs) records + share inputs r ≡
-    48 + 4 * inputs + sum_by (share inputs) (records ++ r ∷ []) = omega (arith, shares_push inputs records r) in
+    48 + 4 * inputs + sum_by (share inputs) (records ++ r ∷ []) = omega (arith, sum_by_push (share inputs) records r) in
     let counted : after.size ≡ capped (48 + 4 * inputs + sum_by (share inputs) (records ++ r ∷ [])) = adds.counted
     ∙ ap (λ (n : ℕ). capped (n + share inputs r)) holds.counted
     ∙ capped_add (48 + 4 * inputs + sum_by (share inputs) records) (share inputs r) ∙ ap capped all in

@@ -62,8 +62,6 @@ pub fn capture<K: Clock>(
         (K.answers clock.old) (K.answers clock.new))) }
     ensures gained { OnErr result (Gained (K.answers clock.old) (K.answers clock.new)) }
 {
-    // The contract of `segments` says how they lie.
-    let _segments = image.segments();
     let machine = match Machine::new(alloc, image, pages) {
         Ok(machine) => machine,
         Err(Fault::At(window)) => return Err(Fault::At(Unrecorded::Window(window))),

@@ -3,7 +3,9 @@ use Rattle.elf_model.specs.Window.{start_of}
 use Rattle.rv_machine.specs.Hart.{Hart}
 use Rattle.log_model.specs.declared.Version.TheVariants.{Two}
 use Rattle.log_model.specs.Logs.{CanHold}
-use Rattle.call_record.proofs.Windows.{start_window}
+use Rattle.log_model.proofs.Words.{IsBytes-each}
+use Rattle.replay_model.specs.Fits.{start_in_image}
+use Rattle.record_model.proofs.Beginning.{begins as program_begins}
 use Rattle.call_record.proofs.Captured.{is_source, Begins, complete, captured, ok_made, all_held, err_cause, err_gained}
 use Rattle.call_record.proofs.recording.capture.Given.{Over}
 use Rattle.call_record.proofs.recording.capture.Goals as goal
@@ -19,8 +21,9 @@ run-requires-clause-source g c = is_source (record { inputs = c.args.inputs; pie
 
 pub run-requires-clause-window : goal.run-requires-clause-window
 run-requires-clause-window g c =
-    let size = start_window c.args.image.now c.args.pages c.new-recorder.result.machine.state
-    c.segments-segments.ensures.laid_out (state g (goal.at.run-requires-clause-window g c).After-new-recorder) in
+    let starts = ap (λ r. start_in_image r c.args.pages) c.requires.image ∙ state g (goal.at.run-requires-clause-window g c).After-new-recorder in
+    let bytes = IsBytes-each c.args.program.now (λ i. omega (arith, c.type_inv.program i)) in
+    let size = (program_begins c.args.program.now c.args.pages c.new-recorder.result.machine.state bytes starts).size in
     let most = c.requires.most in
     omega arith
 

@@ -2,7 +2,8 @@ use Rattle.std.proofs.Common.{rules, arith, ◌<◌, ◌^◌, inr, [], ap, sym, 
 use Rattle.isa.specs.declared.Call.{Call}
 use Rattle.call_record.specs.Steps.{point_of}
 use Rattle.call_record.proofs.Calls.{waits_for, other_records}
-use Rattle.call_record.proofs.SoFar.{tells_none, gained_none}
+use Rattle.outer_io.proofs.TellsLemmas.{tells-nothing}
+use Rattle.call_record.proofs.SoFar.{gained_none}
 use Rattle.call_record.proofs.recorder.Recorder.answer.Goals as goal
 
 pub returns-in_ok-other-in-Other-clause-ok : goal.returns-in_ok-other-in-Other-clause-ok
@@ -12,7 +13,7 @@ returns-in_ok-other-in-Other-clause-ok g c =
     let kind = ap (λ (x : Call). x.kind) c.requires.called.call_is in
     record {
       values = [];
-      gained = tells_none (g.K.Clock.answers c.args.clock.now);
+      gained = tells-nothing (g.K.Clock.answers c.args.clock.now);
       step = inr (record {
         called = c.requires.called.called;
         records = other_records c.args.source.now c.args.at (point_of c.args.self.now) call.number _ (omega arith)
@@ -27,7 +28,7 @@ read-requires-clause-waits g c = waits_for c.requires.called c.in-Read.is
 pub returns-in_ok-read-in-Read-clause-ok : goal.returns-in_ok-read-in-Read-clause-ok
 returns-in_ok-read-in-Read-clause-ok g c = record {
   values = [];
-  gained = tells_none (g.K.Clock.answers c.args.clock.now);
+  gained = tells-nothing (g.K.Clock.answers c.args.clock.now);
   step = inr (record { called = c.requires.called.called; records = c.in_ok-read-in-Read.ensures });
 }
 
@@ -37,7 +38,7 @@ write-requires-clause-waits g c = waits_for c.requires.called c.in-Write.is
 pub returns-in_ok-write-in-Write-clause-ok : goal.returns-in_ok-write-in-Write-clause-ok
 returns-in_ok-write-in-Write-clause-ok g c = record {
   values = [];
-  gained = tells_none (g.K.Clock.answers c.args.clock.now);
+  gained = tells-nothing (g.K.Clock.answers c.args.clock.now);
   step = inr (record { called = c.requires.called.called; records = c.in_ok-write-in-Write.ensures });
 }
 

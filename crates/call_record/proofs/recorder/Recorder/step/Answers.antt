@@ -2,19 +2,18 @@ use Rattle.std.proofs.Common.{inl, [], refl, ap, subst}
 use Rattle.std.specs.Prelude.{IfOk}
 use Rattle.rv_machine.specs.Hart.{Hart}
 use Rattle.call_record.specs.Steps.{Point, IsStepOf}
-use Rattle.call_record.proofs.SoFar.{tells_none}
+use Rattle.outer_io.proofs.TellsLemmas.{tells-nothing}
 use Rattle.call_record.proofs.recorder.Recorder.step.Goals as goal
 
 pub returns-in-Plain-clause-ok : goal.returns-in-Plain-clause-ok
 returns-in-Plain-clause-ok g c = record {
   values = [];
-  gained = tells_none (g.K.Clock.answers c.args.clock.now);
+  gained = tells-nothing (g.K.Clock.answers c.args.clock.now);
   step = inl (record {
     retired = c.in-Plain.ensures.retired;
     goes_on = c.in-Plain.ensures.goes_on;
     counts = refl;
-    tape =
-        refl;
+    tape = refl;
     no_values = refl;
   });
 }
