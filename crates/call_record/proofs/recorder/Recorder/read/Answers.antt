@@ -1,9 +1,7 @@
-use Rattle.std.proofs.Common.{rules, arith, ◌≡◌, ◌<◌, ◌^◌, ◌∙◌, w32, length, get_or, ap, []}
+use Rattle.std.proofs.Common.{rules, arith, ◌∙◌, w32, ap, []}
 use Rattle.std.proofs.lemmas.Int.{to_z-of_z}
-use mir.Val.{SFits}
 use Rattle.log_model.specs.declared.CallRecord.TheVariants.{Read}
 use Rattle.record_model.specs.Recorded.{part_of}
-use Rattle.record_model.specs.Calls.{result_of, bytes_of}
 use Rattle.call_record.specs.Sources.{contents}
 use Rattle.call_record.specs.Steps.{point_of}
 use Rattle.call_record.specs.Tapes.{Adds}
@@ -15,14 +13,8 @@ computed : (c : After-unless_refused-transfer)
     → IsRead c.args.source.now c.args.self.now c.args.call.now c.unless_refused-transfer.result.outcome
     c.unless_refused-transfer.result.bytes.now
 computed c =
-    let f : SFits w32 c.refusal-refusal.result = search rules in
     let source = c.args.source.now in
-    let outcome_is : c.unless_refused-transfer.result.outcome
-    ≡ result_of c.refusal-refusal.result c.part.result.now = rw (to_z-of_z w32 c.refusal-refusal.result f) at
-    c.unless_refused-transfer.ensures.outcome in
-    let bytes_are : c.unless_refused-transfer.result.bytes.now
-    ≡ bytes_of c.refusal-refusal.result c.part.result.now = rw (to_z-of_z w32 c.refusal-refusal.result f) at
-    c.unless_refused-transfer.ensures.bytes in
+    let same = to_z-of_z w32 c.refusal-refusal.result (search rules) in
     record {
       refused = c.refusal-refusal.result;
       channels = c.channels.result;
@@ -31,8 +23,8 @@ computed c =
       channels_are = c.channels.ensures;
       part_is = c.part.ensures.part ∙ ap (λ n. part_of (contents source.inputs.now) source.piece n c.args.call.now.args)
           c.count_of-offset.ensures;
-      outcome_is = outcome_is;
-      bytes_are = bytes_are;
+      outcome_is = rw same at c.unless_refused-transfer.ensures.outcome;
+      bytes_are = rw same at c.unless_refused-transfer.ensures.bytes;
     }
 
 got : (c : After-unless_refused-transfer)
@@ -40,13 +32,8 @@ got : (c : After-unless_refused-transfer)
     (Read c.args.at c.args.call.now.args c.unless_refused-transfer.result.outcome
     c.unless_refused-transfer.result.bytes.now)
 got c =
-    let args = c.args.call.now.args in
-    let size : length args ≡ 3 = search rules in
-    let first : get_or args 0 0 < 2 ^ 32 = search rules in
-    let second : get_or args 1 0 < 2 ^ 32 = search rules in
-    let third : get_or args 2 0 < 2 ^ 32 = search rules in
-    read_got c.requires.waits (computed c) c.requires.source c.requires.safe (omega arith) (words_are args size first second third)
-    c.unless_refused-transfer.ensures.are_bytes
+    read_got c.requires.waits (computed c) c.requires.source c.requires.safe (omega arith)
+    (words_are c.args.call.now.args (search rules) (search rules) (search rules) (search rules)) c.unless_refused-transfer.ensures.are_bytes
 
 pub count-requires : goal.count-requires
 count-requires c =
@@ -55,8 +42,7 @@ count-requires c =
 
 pub add-requires : goal.add-requires
 add-requires c =
-    let f : SFits w32 c.unless_refused-transfer.result.outcome = search rules in
-    rw (to_z-of_z w32 c.unless_refused-transfer.result.outcome f)
+    rw (to_z-of_z w32 c.unless_refused-transfer.result.outcome (search rules))
     ((got (goal.at.add-requires c).After-unless_refused-transfer).form)
 
 pub answer-requires-clause-answers : goal.answer-requires-clause-answers
@@ -68,8 +54,7 @@ pub returns : goal.returns
 returns c =
     let outcome = c.unless_refused-transfer.result.outcome in
     let bytes = c.unless_refused-transfer.result.bytes.now in
-    let f : SFits w32 outcome = search rules in
-    let same = to_z-of_z w32 outcome f in
+    let same = to_z-of_z w32 outcome (search rules) in
     let adds : Adds c.args.self.now.tape (Read c.args.at c.args.call.now.args outcome bytes) c.add.new.self = rw same at
     c.in_ok-add.ensures in
     let after = rw same at c.answer.ensures in

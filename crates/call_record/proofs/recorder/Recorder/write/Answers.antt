@@ -1,8 +1,6 @@
-use Rattle.std.proofs.Common.{rules, arith, ◌≡◌, ◌<◌, ◌^◌, w32, length, get_or, []}
+use Rattle.std.proofs.Common.{rules, arith, w32, []}
 use Rattle.std.proofs.lemmas.Int.{to_z-of_z}
-use mir.Val.{SFits}
 use Rattle.log_model.specs.declared.CallRecord.TheVariants.{Write}
-use Rattle.record_model.specs.Calls.{result_of, bytes_of}
 use Rattle.call_record.specs.Steps.{point_of}
 use Rattle.call_record.specs.Tapes.{Adds}
 use Rattle.call_record.proofs.Calls.{words_are, IsGot, write_got, write_records}
@@ -14,40 +12,28 @@ got : (c : After-unless_refused-transfer)
     (Write c.args.at c.args.call.now.args c.unless_refused-transfer.result.outcome
     c.unless_refused-transfer.result.bytes.now)
 got c =
-    let args = c.args.call.now.args in
-    let size : length args ≡ 3 = search rules in
-    let first : get_or args 0 0 < 2 ^ 32 = search rules in
-    let second : get_or args 1 0 < 2 ^ 32 = search rules in
-    let third : get_or args 2 0 < 2 ^ 32 = search rules in
-    let f : SFits w32 c.refusal-refusal.result = search rules in
-    let outcome_is : c.unless_refused-transfer.result.outcome
-    ≡ result_of c.refusal-refusal.result c.written.result.now = rw (to_z-of_z w32 c.refusal-refusal.result f) at
-    c.unless_refused-transfer.ensures.outcome in
-    let bytes_are : c.unless_refused-transfer.result.bytes.now
-    ≡ bytes_of c.refusal-refusal.result c.written.result.now = rw (to_z-of_z w32 c.refusal-refusal.result f) at
-    c.unless_refused-transfer.ensures.bytes in
+    let same = to_z-of_z w32 c.refusal-refusal.result (search rules) in
     write_got c.requires.waits (record {
       refused = c.refusal-refusal.result;
       channels = c.channels.result;
       part = c.written.result.now;
       refused_is = c.refusal-refusal.ensures;
       part_is = c.written.ensures.part;
-      outcome_is = outcome_is;
-      bytes_are = bytes_are;
-    }) c.requires.safe (omega arith) (words_are args size first second third) c.unless_refused-transfer.ensures.are_bytes
+      outcome_is = rw same at c.unless_refused-transfer.ensures.outcome;
+      bytes_are = rw same at c.unless_refused-transfer.ensures.bytes;
+    }) c.requires.safe (omega arith)
+    (words_are c.args.call.now.args (search rules) (search rules) (search rules) (search rules)) c.unless_refused-transfer.ensures.are_bytes
 
 pub add-requires : goal.add-requires
 add-requires c =
-    let f : SFits w32 c.unless_refused-transfer.result.outcome = search rules in
-    rw (to_z-of_z w32 c.unless_refused-transfer.result.outcome f)
+    rw (to_z-of_z w32 c.unless_refused-transfer.result.outcome (search rules))
     ((got (goal.at.add-requires c).After-unless_refused-transfer).form)
 
 pub returns : goal.returns
 returns c =
     let outcome = c.unless_refused-transfer.result.outcome in
     let bytes = c.unless_refused-transfer.result.bytes.now in
-    let f : SFits w32 outcome = search rules in
-    let same = to_z-of_z w32 outcome f in
+    let same = to_z-of_z w32 outcome (search rules) in
     let adds : Adds c.args.self.now.tape (Write c.args.at c.args.call.now.args outcome bytes) c.add.new.self = rw same
     at c.in_ok-add.ensures in
     let after = rw same at c.answer.ensures in
