@@ -1,15 +1,15 @@
 -- Contents and origins along a run, and the rows of its report.
 use Rattle.std.proofs.Common.{◌≡◌, ℕ, zero, suc, ◌+◌, ◌<◌, ◌≤◌, ◌⊎◌, inl, inr, List, [], ◌∷◌, None, refl, arith, ap, sym, ◌∙◌, subst, Bool, true, false, Option, Some, ◌^◌, ◌++◌, length, get_or, ℤ, pos, get_or-append-add, ltb-true, mod-eq_of_lt, cond, ap₂, ◌==◌, map, eqb-true}
 use Rattle.std.proofs.lemmas.Bool.{cases_lt}
-use Rattle.isa.specs.Machine.{State, Retired, next, reg, bytes_at, wrap}
+use Rattle.isa.specs.Machine.{State, Outcome, Retired, Called, Trapped, next, reg, bytes_at, wrap}
 use Rattle.log_model.specs.declared.CallRecord.{CallRecord}
-use Rattle.log_model.specs.declared.RunEnd.{RunEnd}
-use Rattle.log_model.specs.declared.RunEnd.TheVariants.{Exit, Trap, Limit}
-use Rattle.log_model.specs.Logs.{Log, at_of, end_at, steps, steps_by}
+use Rattle.log_model.specs.Logs.{Log, steps}
 use Rattle.replay_model.specs.Run.{Moment, start, call_seen, advance, moment_after, step_of, steps_from, trace}
-use Rattle.replay_model.specs.Comparison.{PlainStep, CallOf, EndOf, difference, expected, bytes_compared, first_different, arguments, arguments_of, allowed, compared}
-use Rattle.replay_model.proofs.Agreement.{call_agrees, plain_agrees, exit_agrees, expects_plain_at_end, expects_plain_before, expects_call, expects_end, agrees_at, first_agrees, rest_agrees}
-use Rattle.replay_model.proofs.Track.{moment, IsOnTrack, IsOnTrackAt, agrees_with, on_track_at, least_rises}
+use Rattle.replay_model.specs.Comparison.{bytes_compared, first_different, arguments, arguments_of, allowed, compared}
+use Rattle.replay_model.proofs.Agreement.{first_agrees, rest_agrees}
+use Rattle.replay_model.proofs.Track.{IsOnTrackAt, on_track_at}
+use Rattle.decision_find.proofs.Answered.{IsDoneAt}
+use Rattle.decision_find.proofs.Answered.{done_at as answered_at}
 use Rattle.replay_model.proofs.Offsets.{moment_later, steps_within, transfer_offset, step_at_from}
 use Rattle.record_model.specs.States.{IsSound}
 use Rattle.answer_meaning.specs.StepLaws.{SameStep, IsDoneBy, IsDone, receives, receives_by, IsAnswered, bytes_given, OnlyMoves, DeterminedBy}
@@ -61,75 +61,21 @@ use Rattle.replay_model.specs.declared.Field.TheVariants as field
 use Rattle.record_model.proofs.Beginning.{begins}
 use Rattle.replay_model.specs.Comparison.{result as result_compared}
 
-done_plain : (inputs : ℕ) (m : Moment) (t : State) → next m.state ≡ Retired t → IsDone inputs m
-done_plain inputs m t e = subst (IsDoneBy m.state inputs m.left) (sym e) tt
-
-done_before : (log : Log) (t : ℕ) (s : State) (done left : List CallRecord) → IsOnTrack log (moment t s done left) → t < end_at log.end → difference log (moment t s done left) ≡ None → IsDone log.inputs (moment t s done left)
-done_before log t s done [] on below d =
-    let m = moment t s done [] in
-    let plain = plain_agrees m log.inputs (agrees_with log m PlainStep (expects_plain_at_end t log.end below) d) in
-    done_plain log.inputs m plain.0 plain.1
-done_before log t s done (r ∷ rs) on below d = by (cases_lt t (at_of r))
-  where
-    by : (t < at_of r) ⊎ (at_of r ≤ t) → IsDone log.inputs (moment t s done (r ∷ rs))
-    by (inl h) =
-        let m = moment t s done (r ∷ rs) in
-        let plain = plain_agrees m log.inputs (agrees_with log m PlainStep (expects_plain_before t r rs log.end h) d) in
-        done_plain log.inputs m plain.0 plain.1
-    by (inr h) =
-        let m = moment t s done (r ∷ rs) in
-        let a = call_agrees m log.inputs r (agrees_with log m (CallOf r) (expects_call t r rs log.end h) d) in
-        subst (IsDoneBy s log.inputs (r ∷ rs)) (sym a.calls) (on.records.0, a.lawful)
-
--- the exit is a step of its own
-done_exit : (log : Log) (at code t : ℕ) (s : State) (done left : List CallRecord) → log.end ≡ Exit at code → IsOnTrack log (moment t s done left) → t ≡ at → difference log (moment t s done left) ≡ None → IsDone log.inputs (moment t s done left)
-done_exit log at code t s done (r ∷ rs) e on h d =
-    let last : end_at log.end ≡ at = ap end_at e in
-    let first = on.rise.0 in
-    let later = least_rises (at_of r + 1) rs on.rise.1 in
-    let ends = on.ends_after in
-    absurd (omega arith)
-done_exit log at code t s done [] e on h d =
-    let m = moment t s done [] in
-    let last : end_at log.end ≡ at = ap end_at e in
-    let is_end : expected t [] log.end ≡ EndOf (Exit at code) = expects_end t log.end (omega arith) ∙ ap EndOf e in
-    let exits = exit_agrees m log.inputs at code (agrees_with log m (EndOf (Exit at code)) is_end d) in
-    subst (IsDoneBy s log.inputs []) (sym exits.1) tt
-
 -- the moments of a run are on track, at their times
 pub on_track : (log : Log) (s : State) (t : ℕ) → IsRun log s → t < steps log → IsOnTrackAt log t (moment_at s log t)
 on_track log s t run h = let x = steps_within log.end in on_track_at log s t run.form run.agrees (omega arith)
 
 pub done_at : (log : Log) (s : State) (t : ℕ) → IsRun log s → t < steps log → IsDone log.inputs (moment_at s log t)
-done_at log s t run h = by (cases_lt t (end_at log.end))
+done_at log s t run h = by (next m.state) m.left (answered_at log s t run.form run.agrees h)
   where
-    last : steps log ≤ end_at log.end + 1
-    last = steps_within log.end
-
     m : Moment
     m = moment_at s log t
 
-    on : IsOnTrack log m
-    on = (on_track log s t run h).on
-
-    time : m.time ≡ t
-    time = (on_track log s t run h).time
-
-    agrees : difference log m ≡ None
-    agrees = agrees_at log (end_at log.end + 1) t (start s log) run.agrees (let x = last in omega arith)
-
-    ending : (end : RunEnd) → log.end ≡ end → end_at log.end ≤ t → IsDone log.inputs m
-    ending (Exit at code) e g =
-        let x : end_at log.end ≡ at = ap end_at e in
-        let y = last in
-        let z = time in
-        done_exit log at code m.time m.state m.done m.left e on (omega arith) agrees
-    ending (Trap at kind pc) e g = let x : steps_by log.end ≡ end_at log.end = ap steps_by e ∙ sym (ap end_at e) in absurd (omega arith)
-    ending (Limit at) e g = let x : steps_by log.end ≡ end_at log.end = ap steps_by e ∙ sym (ap end_at e) in absurd (omega arith)
-
-    by : (t < end_at log.end) ⊎ (end_at log.end ≤ t) → IsDone log.inputs m
-    by (inl g) = let z = time in done_before log m.time m.state m.done m.left on (omega arith) agrees
-    by (inr g) = ending log.end refl g
+    by : (o : Outcome) (left : List CallRecord) → IsDoneAt log t m.state left o → IsDoneBy m.state log.inputs left o
+    by (Retired x) left d = tt
+    by (Called call) [] d = tt
+    by (Called call) (r ∷ rs) d = (d.1, d.2)
+    by (Trapped k) left d = d
 
 -- each state up to the end is sound
 pub sound_at : (log : Log) (s : State) (t : ℕ) → IsRun log s → t ≤ steps log → IsSound (moment_at s log t).state
@@ -253,20 +199,26 @@ origins_after policy s log t l h = ap (λ (o : Option StepSeen). after_step poli
 pub content_after : (s : State) (log : Log) (t : ℕ) (l : Loc) → content_at s log (suc t) l ≡ content (advance (moment_at s log t)).state l
 content_after s log t l = ap (λ (m : Moment). content m.state l) (moment_later t (start s log))
 
+-- a step that is seen to be a call is answered by what is left
+record IsAnsweredAt (log : Log) (m : Moment) (call : CallSeen) : Type 0 where
+  answered : IsAnswered m.state log.inputs m.left
+  seen : call_seen m m.left ≡ call
+
+answered_as : (log : Log) (s : State) (t : ℕ) (call : CallSeen) → IsRun log s → t < steps log → (step_of (moment_at s log t)).call ≡ Some call → IsAnsweredAt log (moment_at s log t) call
+answered_as log s t call run h e = by (does log.inputs (moment_at s log t) (done_at log s t run h))
+  where
+    by : Does log.inputs (moment_at s log t) → IsAnsweredAt log (moment_at s log t) call
+    by (Plain u x f se sa) = none_is (sym (ap (λ (z : StepSeen). z.call) se) ∙ e)
+    by (Calls c f a se sa) = record { answered = a; seen = some_is (sym (ap (λ (z : StepSeen). z.call) se) ∙ e) }
+
 -- the byte that a step of a run puts at an address
 received_now : (log : Log) (s : State) (t : ℕ) (call : CallSeen) (p : ℕ) → IsRun log s → t < steps log → (step_of (moment_at s log t)).call ≡ Some call → is_received call (Mem p) ≡ true
     → byte_received log (byte_at call (Mem p)) ≡ get_or (bytes_given (moment_at s log t).left) (distance call.place p) 0
-received_now log s t call p run h e r = by (does log.inputs m (done_at log s t run h))
-  where
-    m : Moment
-    m = moment_at s log t
-
-    by : Does log.inputs m → byte_received log (byte_at call (Mem p)) ≡ get_or (bytes_given m.left) (distance call.place p) 0
-    by (Plain u x f se sa) = none_is (sym (ap (λ (z : StepSeen). z.call) se) ∙ e)
-    by (Calls c f g se sa) =
-        let same : call_seen m m.left ≡ call = some_is (sym (ap (λ (z : StepSeen). z.call) se) ∙ e) in
-        subst (λ (x : CallSeen). is_received x (Mem p) ≡ true → byte_received log (byte_at x (Mem p)) ≡ get_or (bytes_given m.left) (distance x.place p) 0) same
-        (λ r. received_given log log.inputs m m.state m.left (on_track log s t run h).on.all g p r) r
+received_now log s t call p run h e r =
+    let m = moment_at s log t in
+    let a = answered_as log s t call run h e in
+    subst (λ (x : CallSeen). is_received x (Mem p) ≡ true → byte_received log (byte_at x (Mem p)) ≡ get_or (bytes_given m.left) (distance x.place p) 0) a.seen
+    (received_given log log.inputs m m.state m.left (on_track log s t run h).on.all a.answered p) r
 
 -- the content of an address that receives a byte
 received_content : (log : Log) (s : State) (t : ℕ) (call : CallSeen) (p : ℕ) → IsRun log s → t < steps log → p < 2 ^ 32 → (step_of (moment_at s log t)).call ≡ Some call → is_received call (Mem p) ≡ true
@@ -455,17 +407,11 @@ each_point Q f (p ∷ ps) = (f p, each_point Q f ps)
 -- an output byte is the content of its place when it is written
 output_is : (log : Log) (s : State) (t : ℕ) (call : CallSeen) (i : ℕ) → IsRun log s → t < steps log → (step_of (moment_at s log t)).call ≡ Some call → call.kind ≡ kind.Write → i < call.length
     → content_at s log t (sink_at t call i).loc ≡ byte_at_sink s log (sink_at t call i).name
-output_is log s t call i run h e w g = by (does log.inputs m (done_at log s t run h))
-  where
-    m : Moment
-    m = moment_at s log t
-
-    by : Does log.inputs m → content_at s log t (sink_at t call i).loc ≡ byte_at_sink s log (sink_at t call i).name
-    by (Plain u x f se sa) = none_is (sym (ap (λ (z : StepSeen). z.call) se) ∙ e)
-    by (Calls c f a se sa) =
-        let same : call_seen m m.left ≡ call = some_is (sym (ap (λ (z : StepSeen). z.call) se) ∙ e) in
-        subst (λ (x : CallSeen). x.kind ≡ kind.Write → i < x.length → content m.state (sink_at t x i).loc ≡ byte_at_sink s log (sink_at t x i).name) same
-        (λ w g. written_given log log.inputs t m m.state m.left i (sound_at log s t run (omega arith)) (on_track log s t run h).on.all a w g) w g
+output_is log s t call i run h e w g =
+    let m = moment_at s log t in
+    let a = answered_as log s t call run h e in
+    subst (λ (x : CallSeen). x.kind ≡ kind.Write → i < x.length → content m.state (sink_at t x i).loc ≡ byte_at_sink s log (sink_at t x i).name) a.seen
+    (written_given log log.inputs t m m.state m.left i (sound_at log s t run (omega arith)) (on_track log s t run h).on.all a.answered) w g
 
 -- ---- the laws
 
@@ -527,17 +473,10 @@ sources_received log s run policy t l =
 
 output_written : (log : Log) (s : State) (t : ℕ) (call : CallSeen) (i : ℕ) → IsRun log s → t < steps log → (step_of (moment_at s log t)).call ≡ Some call → call.kind ≡ kind.Write → i < call.length
     → call.offset + i < length (written call.channel log.records)
-output_written log s t call i run h e w g = by (does log.inputs m (done_at log s t run h))
-  where
-    m : Moment
-    m = moment_at s log t
-
-    by : Does log.inputs m → call.offset + i < length (written call.channel log.records)
-    by (Plain u x f se sa) = none_is (sym (ap (λ (z : StepSeen). z.call) se) ∙ e)
-    by (Calls c f a se sa) =
-        let same : call_seen m m.left ≡ call = some_is (sym (ap (λ (z : StepSeen). z.call) se) ∙ e) in
-        subst (λ (x : CallSeen). x.kind ≡ kind.Write → i < x.length → x.offset + i < length (written x.channel log.records)) same
-        (λ w g. written_within log m m.left i (on_track log s t run h).on.all w g) w g
+output_written log s t call i run h e w g =
+    let m = moment_at s log t in
+    subst (λ (x : CallSeen). x.kind ≡ kind.Write → i < x.length → x.offset + i < length (written x.channel log.records)) (answered_as log s t call run h e).seen
+    (written_within log m m.left i (on_track log s t run h).on.all) w g
 
 -- ---- the law
 

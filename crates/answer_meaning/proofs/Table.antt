@@ -1,5 +1,5 @@
 -- What one instruction carries, row by row of the flow table, and what determines a lane where the table lists more.
-use Rattle.std.proofs.Common.{◌≡◌, ℕ, ◌+◌, ◌-◌, ◌*◌, ◌/◌, ◌^◌, ◌%◌, ◌<◌, Bool, true, false, not, List, [], ◌∷◌, refl, arith, ap, ◌∙◌, subst, ℤ, pos, ◌*ℤ◌, bit_and, bit_or, bit_xor, int_lt, get_or, zero, suc, ◌⊎◌, inl, inr, ◌++◌, ap₂, sym, negsuc, ltb-true, ltb-false}
+use Rattle.std.proofs.Common.{◌≡◌, ℕ, ◌+◌, ◌-◌, ◌*◌, ◌/◌, ◌^◌, ◌%◌, ◌<◌, Bool, true, false, not, List, [], ◌∷◌, refl, arith, ap, ◌∙◌, subst, ℤ, pos, ◌*ℤ◌, bit_and, bit_or, bit_xor, int_lt, get_or, zero, suc, ◌⊎◌, inl, inr, ap₂, sym, negsuc, ltb-true, ltb-false}
 use Rattle.std.specs.Prelude.{◌==◌, nat_lt, nat_le, if◌then◌else◌}
 use Rattle.std.specs.Ordering.{int_eq}
 use Rattle.std.specs.Int.Bits.{xor_zero_l, xor_zero_r, or_zero_l, or_zero_r}
@@ -16,7 +16,7 @@ use Rattle.answer_meaning.specs.Content.{content, lane_of, AgreeAt}
 use Rattle.answer_meaning.specs.StepLaws.{is_load}
 use Rattle.answer_meaning.proofs.Lanes.{xor_lane, or_lane, and_lane, and_all, lane_down, lane_down_signed, Short, ShortOne, ShortTwo}
 use Rattle.record_model.proofs.Sound.{low_length, Size, OneByte, TwoBytes, FourBytes, Leaves, on_landed, on_branched, on_loaded, on_stored}
-use Rattle.answer_meaning.proofs.Targets.{AgreesOn, agrees_on, Carries, carry, kept, to_set, to_put, left_moved, right_moved, same_value, moves, of_one, of_two, of_shift, of_bytes, of_immediate, of_shift_by, of_test, of_tests, of_move, of_load, of_signed_load, of_store, word_agrees, lane_agrees}
+use Rattle.answer_meaning.proofs.Targets.{AgreesOn, agrees_on, Carries, carry, kept, to_set, to_put, left_moved, right_moved, same_value, moves, of_one, of_two, of_shift, of_bytes, of_immediate, of_shift_by, of_test, of_tests, of_move, of_load, of_signed_load, of_store, word_agrees, lane_agrees, amount_agrees}
 use Rattle.std.specs.List.{flat_map, range_with_len}
 use Rattle.std.proofs.lemmas.Bool.{cases_eq}
 use Rattle.std.specs.Int.{int_shr}
@@ -258,43 +258,33 @@ module _ {s t : State} (ss : IsSound s) (st : IsSound t) where
   high_agrees : (r i : ℕ) → i < 4 → AgreeAt s t (lanes_from r i) → high i (reg s r) ≡ high i (reg t r)
   high_agrees r i h g = high_by (reg s r) (reg t r) i (ss.words r) (st.words r) h (λ j x y. each_lane_agrees r i (4 - i) g j x (omega arith))
 
-  -- of two lists of locations
-  apart : (xs ys : List Loc) → AgreeAt s t (xs ++ ys) → AgreeAt s t xs × AgreeAt s t ys
-  apart xs ys h = all-parts (λ l. content s l ≡ content t l) xs ys h
-
-  amount_agrees : (b : ℕ) → AgreeAt s t (lane b 0) → reg s b % 32 ≡ reg t b % 32
-  amount_agrees b h = low_five (reg s b) (reg t b) (lane_agrees ss st b 0 h)
-    where
-      low_five : (v w : ℕ) → lane_of v 0 ≡ lane_of w 0 → v % 32 ≡ w % 32
-      low_five v w e = omega arith
-
 pub fewer_determine : FewerDetermine
 fewer_determine s t instr i ls ss st h (OfSum d a b j) agree =
-    let both = apart ss st (lanes_up_to a j) (lanes_up_to b j) agree in
+    let both = all-parts _ (lanes_up_to a j) (lanes_up_to b j) agree in
     by_low (reg s a + reg s b) (reg t a + reg t b) j h (low_sum (reg s a) (reg s b) (reg t a) (reg t b) j h (low_agrees ss st a j h both.0) (low_agrees ss st b j h both.1))
 fewer_determine s t instr i ls ss st h (OfDifference d a b j) agree =
-    let both = apart ss st (lanes_up_to a j) (lanes_up_to b j) agree in
+    let both = all-parts _ (lanes_up_to a j) (lanes_up_to b j) agree in
     by_low (reg s a + (2 ^ 32 - reg s b)) (reg t a + (2 ^ 32 - reg t b)) j h
     (low_sum (reg s a) (2 ^ 32 - reg s b) (reg t a) (2 ^ 32 - reg t b) j h (low_agrees ss st a j h both.0)
     (low_negated (reg s b) (reg t b) j (ss.words b) (st.words b) h (low_agrees ss st b j h both.1)))
 fewer_determine s t instr i ls ss st h (OfProduct d a b j) agree =
-    let both = apart ss st (lanes_up_to a j) (lanes_up_to b j) agree in
+    let both = all-parts _ (lanes_up_to a j) (lanes_up_to b j) agree in
     by_low (reg s a * reg s b) (reg t a * reg t b) j h (low_product (reg s a) (reg s b) (reg t a) (reg t b) j (low_agrees ss st a j h both.0) (low_agrees ss st b j h both.1))
 fewer_determine s t instr i ls ss st h (OfImmediate d a imm j) agree =
     by_low (reg s a + as_word imm) (reg t a + as_word imm) j h (low_sum (reg s a) (as_word imm) (reg t a) (as_word imm) j h (low_agrees ss st a j h agree) refl)
 fewer_determine s t instr i ls ss st h (OfLeftShift d a b j) agree =
-    let both = apart ss st (lanes_up_to a j) (lane b 0) agree in
+    let both = all-parts _ (lanes_up_to a j) (lane b 0) agree in
     by_low (reg s a * 2 ^ (reg s b % 32)) (reg t a * 2 ^ (reg t b % 32)) j h
     (low_product (reg s a) (2 ^ (reg s b % 32)) (reg t a) (2 ^ (reg t b % 32)) j (low_agrees ss st a j h both.0) (ap (λ (k : ℕ). low j (2 ^ k)) (amount_agrees ss st b both.1)))
 fewer_determine s t instr i ls ss st h (OfRightShift d a b j) agree =
-    let both = apart ss st (lanes_from a j) (lane b 0) agree in
+    let both = all-parts _ (lanes_from a j) (lane b 0) agree in
     by_high (reg s a / 2 ^ (reg s b % 32)) (reg t a / 2 ^ (reg s b % 32)) j h (high_quotient (reg s a) (reg t a) (2 ^ (reg s b % 32)) j (high_agrees ss st a j h both.0))
     ∙ ap (λ (k : ℕ). lane_of (reg t a / 2 ^ k) j) (amount_agrees ss st b both.1)
 fewer_determine s t instr i ls ss st h (OfSignedShift d a b j) agree =
-    let both = apart ss st (lanes_from a j) (lane b 0) agree in
+    let both = all-parts _ (lanes_from a j) (lane b 0) agree in
     shifted_lane (reg s a) (reg t a) (reg s b % 32) j (ss.words a) (st.words a) h (high_agrees ss st a j h both.0)
     ∙ ap (λ (k : ℕ). lane_of (arithmetic_right (reg t a) k) j) (amount_agrees ss st b both.1)
 fewer_determine s t instr i ls ss st h (OfQuotient d a b j) agree =
-    let both = apart ss st (lanes_from a j) (lanes b) agree in
+    let both = all-parts _ (lanes_from a j) (lanes b) agree in
     quotient_lane (reg s a) (reg t a) (reg s b) j h (high_agrees ss st a j h both.0)
     ∙ ap (λ (y : ℕ). lane_of (unsigned_quotient (reg t a) y) j) (word_agrees ss st b both.1)

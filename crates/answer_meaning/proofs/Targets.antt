@@ -244,13 +244,13 @@ module _ {s t : State} (ss : IsSound s) (st : IsSound t) where
   base_agrees other a imm ls e h = (e, h)
 
   -- a shift looks at the lowest five bits of the amount
+  pub amount_agrees : (b : ℕ) → AgreeAt s t (lane b 0) → reg s b % 32 ≡ reg t b % 32
+  amount_agrees b h = let lowest = lane_agrees b 0 h in omega arith
+
   pub shift_agrees : (a b i : ℕ) → AgreeAt s t (shifted_lanes a b i) → (reg s a ≡ reg t a) × (reg s b % 32 ≡ reg t b % 32)
   shift_agrees a b i h =
       let both = union-all loc_same (λ l. content s l ≡ content t l) (lanes a) (lane b 0) h in
-      (word_agrees a both.0, low_five (reg s b) (reg t b) (lane_agrees b 0 both.1))
-    where
-      low_five : (v w : ℕ) → lane_of v 0 ≡ lane_of w 0 → v % 32 ≡ w % 32
-      low_five v w e = omega arith
+      (word_agrees a both.0, amount_agrees b both.1)
 
   -- ---- what is carried
 
