@@ -1,10 +1,12 @@
 -- Where two states agree at the decisions of one, their next steps are alike; and the window of a run stays where it is.
 use Rattle.std.proofs.Common.{◌≡◌, ℕ, zero, suc, ◌-◌, ◌≤◌, List, [], ◌∷◌, length, refl, arith, sym, ◌∙◌, subst, length-take, ℤ, ◌+◌, ◌*◌, ◌/◌, ◌<◌, ◌⊎◌, inl, inr, Bool, true, false, ◌++◌, get_or, ap, ap₂, mod-eq_of_lt, int_lt}
 use Rattle.std.specs.Int.{w32, to_le_bytes}
+use Rattle.std.proofs.lemmas.List.{ext_get_or}
 use Rattle.isa.specs.declared.Effect.{Effect}
 use Rattle.isa.specs.declared.Effect.TheVariants.{SetRegister, Jump, Branch, Load, Store, MoveOn}
 use Rattle.isa.specs.Machine.{State, execute, effect_of, is_aligned, jumped, in_window, overwritten, low_bytes, as_word, Outcome, Retired, Called, Trapped, reg, kind_of, call_of, wrap, as_signed, bytes_at, little_endian, relative, effective_address, landed, branched, loaded, stored, Fetch, Fetched, OutsideWindow, Illegal, fetch, fetch_if, decoded, outcome_of, next, place_of}
 use Rattle.isa.specs.Calls.{buffer_of}
+use Rattle.lists.proofs.Lists.{all-parts}
 use Rattle.isa.proofs.Window.{length-overwritten, holds_by, Holds}
 use Rattle.log_model.specs.declared.CallRecord.{CallRecord}
 use Rattle.log_model.specs.declared.CallRecord.TheVariants.{Read, Write}
@@ -81,16 +83,6 @@ AlikeOutcomes rule s t (Retired x) (Trapped k) = rule ≡ Index
 AlikeOutcomes rule s t (Trapped k) (Retired x) = rule ≡ Index
 AlikeOutcomes rule s t x y = ⊥
 
-same_list : (xs ys : List ℕ) → length xs ≡ length ys → ((i : ℕ) → i < length xs → get_or xs i 0 ≡ get_or ys i 0) → xs ≡ ys
-same_list [] [] e h = refl
-same_list [] (y ∷ ys) e h = absurd (omega arith)
-same_list (x ∷ xs) [] e h = absurd (omega arith)
-same_list (x ∷ xs) (y ∷ ys) e h = ap₂ (λ (z : ℕ) (zs : List ℕ). z ∷ zs) (h 0 (omega arith)) (same_list xs ys (omega arith) (λ i g. h (suc i) (omega arith)))
-
-pub split_agree : (s t : State) (xs ys : List Loc) → AgreeAt s t (xs ++ ys) → AgreeAt s t xs × AgreeAt s t ys
-split_agree s t [] ys h = (tt, h)
-split_agree s t (x ∷ xs) ys h = let rest = split_agree s t xs ys h.1 in ((h.0, rest.0), rest.1)
-
 landed_alike : (rule : Rule) (s t : State) (b c : Bool) (x y : State) → b ≡ c → x.pc ≡ y.pc → AlikeOutcomes rule s t (landed b x) (landed c y)
 landed_alike rule s t true true x y e h = h
 landed_alike rule s t false false x y e h = refl
@@ -103,7 +95,7 @@ module _ {s t : State} (ss : IsSound s) (st : IsSound t) (pc : s.pc ≡ t.pc) (b
   -- ---- the instruction
 
   same_bytes : (p : ℕ) → in_window s p 4 ≡ true → in_window t p 4 ≡ true → ((i : ℕ) → i < 4 → content s (Mem (wrap (p + i))) ≡ content t (Mem (wrap (p + i)))) → bytes_at s p 4 ≡ bytes_at t p 4
-  same_bytes p ws wt h = same_list (bytes_at s p 4) (bytes_at t p 4) (long_s ∙ sym long_t) (λ i g. each i (omega (arith, long_s)))
+  same_bytes p ws wt h = ext_get_or 0 (bytes_at s p 4) (bytes_at t p 4) (long_s ∙ sym long_t) (λ i g. each i (omega (arith, long_s)))
     where
       hs : Holds s.base (length s.memory) p 4
       hs = holds_by s p 4 ws
@@ -190,7 +182,7 @@ module _ {s t : State} (ss : IsSound s) (st : IsSound t) (pc : s.pc ≡ t.pc) (b
   stores a b imm n h = stored_alike _ _ _ _ n (reg s b) (reg t b) (same_window (effective_address s a imm) (effective_address t a imm) n (address_agrees ss st a imm h))
 
   called : AgreeAt s t (asked (kind_of (reg s 17))) → AlikeOutcomes rule s t (Called (call_of s)) (Called (call_of t))
-  called h = let both = split_agree s t (used (kind_of (reg s 17))) (lanes 17) h in let number = word_agrees ss st 17 both.1 in (ap kind_of number, number, both.0)
+  called h = let both = all-parts _ (used (kind_of (reg s 17))) (lanes 17) h in let number = word_agrees ss st 17 both.1 in (ap kind_of number, number, both.0)
 
   -- each instruction
   alike : (i : Instr) → AgreeAt s t (decides rule (kind_of (reg s 17)) i) → AlikeOutcomes rule s t (execute s (effect_of s i)) (execute t (effect_of t i))
@@ -234,7 +226,7 @@ module _ {s t : State} (ss : IsSound s) (st : IsSound t) (pc : s.pc ≡ t.pc) (b
   places other h = inl refl
 
   pub same_fetched : AgreeAt s t (decisions rule s) → fetch s ≡ fetch t
-  same_fetched h = same_fetch (split_agree s t (decides_fetched rule (kind_of (reg s 17)) (instr_of (fetch s))) (fetched_from s.pc) h).1
+  same_fetched h = same_fetch (all-parts _ (decides_fetched rule (kind_of (reg s 17)) (instr_of (fetch s))) (fetched_from s.pc) h).1
 
   fetched_alike : (f : Fetch) → AgreeAt s t (decides_fetched rule (kind_of (reg s 17)) (instr_of f)) → AlikeOutcomes rule s t (outcome_of s f) (outcome_of t f)
   fetched_alike OutsideWindow h = refl
@@ -242,7 +234,7 @@ module _ {s t : State} (ss : IsSound s) (st : IsSound t) (pc : s.pc ≡ t.pc) (b
   fetched_alike (Fetched i) h = alike i h
 
   pub next_alike : AgreeAt s t (decisions rule s) → AlikeOutcomes rule s t (next s) (next t)
-  next_alike h = subst (λ (f : Fetch). AlikeOutcomes rule s t (next s) (outcome_of t f)) (same_fetched h) (fetched_alike (fetch s) (split_agree s t (decides_fetched rule (kind_of (reg s 17)) (instr_of (fetch s))) (fetched_from s.pc) h).0)
+  next_alike h = subst (λ (f : Fetch). AlikeOutcomes rule s t (next s) (outcome_of t f)) (same_fetched h) (fetched_alike (fetch s) (all-parts _ (decides_fetched rule (kind_of (reg s 17)) (instr_of (fetch s))) (fetched_from s.pc) h).0)
 
   pub places_alike : (i : Instr) → fetch s ≡ Fetched i → AgreeAt s t (decisions rule s) → SamePlaces i
-  places_alike i e h = places i (subst (λ (f : Fetch). AgreeAt s t (decides_fetched rule (kind_of (reg s 17)) (instr_of f))) e (split_agree s t (decides_fetched rule (kind_of (reg s 17)) (instr_of (fetch s))) (fetched_from s.pc) h).0)
+  places_alike i e h = places i (subst (λ (f : Fetch). AgreeAt s t (decides_fetched rule (kind_of (reg s 17)) (instr_of f))) e (all-parts _ (decides_fetched rule (kind_of (reg s 17)) (instr_of (fetch s))) (fetched_from s.pc) h).0)

@@ -215,12 +215,9 @@ module _ (differs : SourceByte → Bool) (x y : Setting) (alike : AreSettingsAli
 
 -- ---- two recordings
 
-program_fits : (p r : List ℕ) (log : Log) → p ≡ r → Fits r log → Fits p log
-program_fits p r log e f = subst (λ (w : List ℕ). Fits w log) (sym e) f
-
 pub recordings_are_alike : RecordingsAreAlike
 recordings_are_alike x y answers others a b differs alike bytes clock first second q is chosen none =
-    let fits_too = program_fits x.program y.program b alike.program second.fits in
+    let fits_too = subst (λ (w : List ℕ). Fits w b) (sym alike.program) second.fits in
     let pages = first.has_pages ∙ alike.pages ∙ sym second.has_pages in
     let runs : AreRuns x.program a b = record { bytes = bytes; first = first.is_log; second = second.is_log; fits = first.fits; fits_too = fits_too; pages = pages } in
     let s = first.fits.start in

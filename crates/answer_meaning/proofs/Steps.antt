@@ -22,7 +22,7 @@ use Rattle.answer_meaning.specs.StepLaws.{IsAnswered, words_given, IsDoneBy, IsD
 use Rattle.record_model.proofs.Values.{fetched_in_range}
 use Rattle.record_model.proofs.Sound.{set_in, sound_pc, Leaves, leaves_is, stays_sound, call_sound, read_room, Executes, HasRoom, retires}
 use Rattle.answer_meaning.proofs.Lanes.{put_in, put_out}
-use Rattle.answer_meaning.proofs.Targets.{Carries, carry, kept, to_set, still, same_value, agrees_on, IsMoved, base_agrees, no_location}
+use Rattle.answer_meaning.proofs.Targets.{Carries, carry, kept, to_lanes, to_set, same_value, agrees_on, IsMoved, base_agrees, no_location}
 use Rattle.lists.proofs.Tests.{true-false}
 use Rattle.isa.specs.declared.Instr.{Instr}
 use Rattle.isa.specs.declared.Instr.TheVariants.{Ecall}
@@ -98,38 +98,17 @@ module _ {s t : State} (ss : IsSound s) (st : IsSound t) {rule : Rule} {P : List
 
   clock_carries : (x y : ℕ) (l : Loc) → x % 2 ^ 32 ≡ y % 2 ^ 32 → x / 2 ^ 32 ≡ y / 2 ^ 32 → P (origins_by (cleared kind.Clock) l) (content (after_clock s x) l) (content (after_clock t y) l)
   clock_carries x y (Mem q) e f = c.self (Mem q)
-  clock_carries x y (Reg r i) e f = by (10 == r) refl
+  clock_carries x y (Reg r i) e f =
+      to_lanes c 10 (x % 2 ^ 32) (y % 2 ^ 32) nothing (λ r i. origins_by (to_register 11 nothing) (Reg r i))
+      (λ r i. lane_of (get_or (slice_set (slice_set s.registers 10 (x % 2 ^ 32)) 11 (x / 2 ^ 32)) r 0) i)
+      (λ r i. lane_of (get_or (slice_set (slice_set t.registers 10 (y % 2 ^ 32)) 11 (y / 2 ^ 32)) r 0) i)
+      (λ i. at_ten s.registers (x % 2 ^ 32) (x / 2 ^ 32) i ss.count) (λ i. at_ten t.registers (y % 2 ^ 32) (y / 2 ^ 32) i st.count)
+      (λ i h. same_value ss st c (x % 2 ^ 32) (y % 2 ^ 32) i e) (λ i. high 10 (suc (suc (suc (suc i)))))
+      (λ r i n. carry c _ _ (lane_of (get_or (slice_set s.registers 11 (x / 2 ^ 32)) r 0) i) _ (lane_of (get_or (slice_set t.registers 11 (y / 2 ^ 32)) r 0) i)
+      (not_ten s.registers (x % 2 ^ 32) (x / 2 ^ 32) r i n) (not_ten t.registers (y % 2 ^ 32) (y / 2 ^ 32) r i n) (high r i)) r i
     where
-      high : (i : ℕ) → P (origins_by (to_register 11 nothing) (Reg r i)) (lane_of (get_or (slice_set s.registers 11 (x / 2 ^ 32)) r 0) i) (lane_of (get_or (slice_set t.registers 11 (y / 2 ^ 32)) r 0) i)
-      high i = to_set c 11 (x / 2 ^ 32) (y / 2 ^ 32) (wrap (s.pc + 4)) (wrap (t.pc + 4)) nothing ss st (omega arith) (λ j h. same_value ss st c (x / 2 ^ 32) (y / 2 ^ 32) j f) (Reg r i)
-
-      none : (v w : ℕ) → v ≡ w → P [] v w
-      none v w e = still ss st c v w e
-
-      -- where the lane is none of x10's, the word is of no matter
-      first : (a b d g : Bool) (ls : List Loc) (v w : ℕ) → v ≡ w → P ls v w → P (cond a [] (cond b [] (cond d [] (cond g [] ls)))) v w
-      first false false false false ls v w e h = h
-      first a b d g ls v w e h = none v w e
-
-      ten : (i : ℕ) → P (cond (0 == i) [] (cond (1 == i) [] (cond (2 == i) [] (cond (3 == i) [] (origins_by (to_register 11 nothing) (Reg r i)))))) (lane_of (x % 2 ^ 32) i) (lane_of (y % 2 ^ 32) i)
-      ten zero = same_value ss st c (x % 2 ^ 32) (y % 2 ^ 32) 0 e
-      ten (suc zero) = same_value ss st c (x % 2 ^ 32) (y % 2 ^ 32) 1 e
-      ten (suc (suc zero)) = same_value ss st c (x % 2 ^ 32) (y % 2 ^ 32) 2 e
-      ten (suc (suc (suc zero))) = same_value ss st c (x % 2 ^ 32) (y % 2 ^ 32) 3 e
-      ten (suc (suc (suc (suc i)))) = let j : ℕ = suc (suc (suc (suc i))) in first (0 == j) (1 == j) (2 == j) (3 == j) (origins_by (to_register 11 nothing) (Reg r j)) 0 0 refl (high j)
-
-      by : (b : Bool) → (10 == r) ≡ b → P (cond (b && (0 == i)) [] (cond (b && (1 == i)) [] (cond (b && (2 == i)) [] (cond (b && (3 == i)) [] (origins_by (to_register 11 nothing) (Reg r i))))))
-          (lane_of (get_or (slice_set (slice_set s.registers 10 (x % 2 ^ 32)) 11 (x / 2 ^ 32)) r 0) i) (lane_of (get_or (slice_set (slice_set t.registers 10 (y % 2 ^ 32)) 11 (y / 2 ^ 32)) r 0) i)
-      by true g =
-          let z = eqb-true 10 r g in
-          carry c (cond (0 == i) [] (cond (1 == i) [] (cond (2 == i) [] (cond (3 == i) [] (origins_by (to_register 11 nothing) (Reg r i)))))) _ (lane_of (x % 2 ^ 32) i) _ (lane_of (y % 2 ^ 32) i)
-          (ap (λ (n : ℕ). lane_of (get_or (slice_set (slice_set s.registers 10 (x % 2 ^ 32)) 11 (x / 2 ^ 32)) n 0) i) (sym z) ∙ at_ten s.registers (x % 2 ^ 32) (x / 2 ^ 32) i ss.count)
-          (ap (λ (n : ℕ). lane_of (get_or (slice_set (slice_set t.registers 10 (y % 2 ^ 32)) 11 (y / 2 ^ 32)) n 0) i) (sym z) ∙ at_ten t.registers (y % 2 ^ 32) (y / 2 ^ 32) i st.count)
-          (ten i)
-      by false g =
-          let n = eqb-false 10 r g in
-          carry c (origins_by (to_register 11 nothing) (Reg r i)) _ (lane_of (get_or (slice_set s.registers 11 (x / 2 ^ 32)) r 0) i) _ (lane_of (get_or (slice_set t.registers 11 (y / 2 ^ 32)) r 0) i)
-          (not_ten s.registers (x % 2 ^ 32) (x / 2 ^ 32) r i n) (not_ten t.registers (y % 2 ^ 32) (y / 2 ^ 32) r i n) (high i)
+      high : (r i : ℕ) → P (origins_by (to_register 11 nothing) (Reg r i)) (lane_of (get_or (slice_set s.registers 11 (x / 2 ^ 32)) r 0) i) (lane_of (get_or (slice_set t.registers 11 (y / 2 ^ 32)) r 0) i)
+      high r i = to_set c 11 (x / 2 ^ 32) (y / 2 ^ 32) (wrap (s.pc + 4)) (wrap (t.pc + 4)) nothing ss st (omega arith) (λ j h. same_value ss st c (x / 2 ^ 32) (y / 2 ^ 32) j f) (Reg r i)
 
   -- ---- an answered call
 

@@ -113,42 +113,48 @@ module _ {s t : State} {rule : Rule} {P : List Loc → ℕ → ℕ → Type 0} (
   kept p q (Reg r i) = c.self (Reg r i)
   kept p q (Mem m) = c.self (Mem m)
 
+  -- the lanes of a register get these words; of other places, and of what is no lane, the rest of the table says where they come from
+  pub to_lanes : (d v w : ℕ) (origins : ℕ → List Loc) (rest : ℕ → ℕ → List Loc) (x y : ℕ → ℕ → ℕ) → ((i : ℕ) → x d i ≡ lane_of v i) → ((i : ℕ) → y d i ≡ lane_of w i)
+      → ((i : ℕ) → i < 4 → P (origins i) (lane_of v i) (lane_of w i)) → ((i : ℕ) → P (rest d (suc (suc (suc (suc i))))) 0 0)
+      → ((r i : ℕ) → (d ≡ r → ⊥) → P (rest r i) (x r i) (y r i)) → (r i : ℕ)
+      → P (cond ((d == r) && (0 == i)) (origins 0) (cond ((d == r) && (1 == i)) (origins 1) (cond ((d == r) && (2 == i)) (origins 2) (cond ((d == r) && (3 == i)) (origins 3) (rest r i))))) (x r i) (y r i)
+  to_lanes d v w origins rest x y is_v is_w each beyond other r i = by (d == r) refl
+    where
+      past : (a b e f : Bool) (ls : List Loc) → a ≡ false → b ≡ false → e ≡ false → f ≡ false → P ls 0 0 → P (cond a (origins 0) (cond b (origins 1) (cond e (origins 2) (cond f (origins 3) ls)))) 0 0
+      past false false false false ls m n o p h = h
+      past a b e f ls m n o p h = cc
+
+      hit : (i : ℕ) → P (cond (0 == i) (origins 0) (cond (1 == i) (origins 1) (cond (2 == i) (origins 2) (cond (3 == i) (origins 3) (rest d i))))) (lane_of v i) (lane_of w i)
+      hit zero = each 0 (omega arith)
+      hit (suc zero) = each 1 (omega arith)
+      hit (suc (suc zero)) = each 2 (omega arith)
+      hit (suc (suc (suc zero))) = each 3 (omega arith)
+      hit (suc (suc (suc (suc i)))) =
+          let j : ℕ = suc (suc (suc (suc i))) in
+          past (0 == j) (1 == j) (2 == j) (3 == j) (rest d j) (ne_eqb 0 j (λ f. omega arith)) (ne_eqb 1 j (λ f. omega arith)) (ne_eqb 2 j (λ f. omega arith)) (ne_eqb 3 j (λ f. omega arith)) (beyond i)
+
+      by : (b : Bool) → (d == r) ≡ b → P (cond (b && (0 == i)) (origins 0) (cond (b && (1 == i)) (origins 1) (cond (b && (2 == i)) (origins 2) (cond (b && (3 == i)) (origins 3) (rest r i))))) (x r i) (y r i)
+      by true e =
+          subst (λ (k : ℕ). P (cond (0 == i) (origins 0) (cond (1 == i) (origins 1) (cond (2 == i) (origins 2) (cond (3 == i) (origins 3) (rest k i))))) (x k i) (y k i)) (eqb-true d r e)
+          (carry _ _ (lane_of v i) _ (lane_of w i) (is_v i) (is_w i) (hit i))
+      by false e = other r i (eqb-false d r e)
+
   -- a register is set
   pub to_set : (d v w p q : ℕ) (origins : ℕ → List Loc) → IsSound s → IsSound t → d < 32 → ((i : ℕ) → i < 4 → P (origins i) (lane_of v i) (lane_of w i)) → (l : Loc) → P (origins_by (to_register d origins) l) (content (set_in s p d v) l) (content (set_in t q d w) l)
   to_set d v w p q origins ss st h each l = by (d == 0) l
     where
-      same : (xs : List ℕ) (x r i : ℕ) → d < length xs → d ≡ r → lane_of (get_or (slice_set xs d x) r 0) i ≡ lane_of x i
-      same xs x r i g e = ap (λ (y : ℕ). lane_of (get_or (slice_set xs d x) y 0) i) (sym e) ∙ ap (λ (y : ℕ). lane_of y i) (get_or-set_same xs d x 0 g)
+      same : (xs : List ℕ) (x i : ℕ) → length xs ≡ 32 → lane_of (get_or (slice_set xs d x) d 0) i ≡ lane_of x i
+      same xs x i g = ap (λ (y : ℕ). lane_of y i) (get_or-set_same xs d x 0 (omega arith))
 
       other : (xs : List ℕ) (x r i : ℕ) → (d ≡ r → ⊥) → lane_of (get_or (slice_set xs d x) r 0) i ≡ lane_of (get_or xs r 0) i
       other xs x r i n = ap (λ (y : ℕ). lane_of y i) (get_or-set_other xs d r x 0 (λ e. n (sym e)))
 
-      past : (x y z u : Bool) (ls : List Loc) (v w : ℕ) → x ≡ false → y ≡ false → z ≡ false → u ≡ false → P ls v w → P (cond x (origins 0) (cond y (origins 1) (cond z (origins 2) (cond u (origins 3) ls)))) v w
-      past false false false false ls v w a b e f h = h
-      past x y z u ls v w a b e f h = cc
-
-      hit : (r : ℕ) → d ≡ r → (i : ℕ) → P (cond (0 == i) (origins 0) (cond (1 == i) (origins 1) (cond (2 == i) (origins 2) (cond (3 == i) (origins 3) (Reg r i ∷ []))))) (lane_of v i) (lane_of w i)
-      hit r e zero = each 0 (omega arith)
-      hit r e (suc zero) = each 1 (omega arith)
-      hit r e (suc (suc zero)) = each 2 (omega arith)
-      hit r e (suc (suc (suc zero))) = each 3 (omega arith)
-      hit r e (suc (suc (suc (suc i)))) =
-          let l = Reg r (suc (suc (suc (suc i)))) in
-          past (0 == suc (suc (suc (suc i)))) (1 == suc (suc (suc (suc i)))) (2 == suc (suc (suc (suc i)))) (3 == suc (suc (suc (suc i)))) (l ∷ []) 0 0
-          (ne_eqb 0 (suc (suc (suc (suc i)))) (λ f. omega arith)) (ne_eqb 1 (suc (suc (suc (suc i)))) (λ f. omega arith)) (ne_eqb 2 (suc (suc (suc (suc i)))) (λ f. omega arith)) (ne_eqb 3 (suc (suc (suc (suc i)))) (λ f. omega arith)) (c.self l)
-
-      on : (r i : ℕ) (b : Bool) → (d == r) ≡ b → P (cond (b && (0 == i)) (origins 0) (cond (b && (1 == i)) (origins 1) (cond (b && (2 == i)) (origins 2) (cond (b && (3 == i)) (origins 3) (Reg r i ∷ []))))) (lane_of (get_or (slice_set s.registers d v) r 0) i) (lane_of (get_or (slice_set t.registers d w) r 0) i)
-      on r i true e =
-          let f = eqb-true d r e in
-          let x = ss.count in
-          let y = st.count in
-          carry _ _ (lane_of v i) _ (lane_of w i) (same s.registers v r i (omega arith) f) (same t.registers w r i (omega arith) f) (hit r f i)
-      on r i false e = carry _ _ (lane_of (get_or s.registers r 0) i) _ (lane_of (get_or t.registers r 0) i) (other s.registers v r i (eqb-false d r e)) (other t.registers w r i (eqb-false d r e)) (c.self (Reg r i))
-
       by : (b : Bool) (l : Loc) → P (origins_by (cond b [] (map (λ i. record { loc = Reg d i; origins = origins i }) (range_with_len 0 4))) l) (content (record s { pc = p; registers = cond b s.registers (slice_set s.registers d v) }) l) (content (record t { pc = q; registers = cond b t.registers (slice_set t.registers d w) }) l)
       by true (Reg r i) = c.self (Reg r i)
       by true (Mem m) = c.self (Mem m)
-      by false (Reg r i) = on r i (d == r) refl
+      by false (Reg r i) = to_lanes d v w origins (λ r i. Reg r i ∷ []) (λ r i. lane_of (get_or (slice_set s.registers d v) r 0) i) (λ r i. lane_of (get_or (slice_set t.registers d w) r 0) i)
+          (λ i. same s.registers v i ss.count) (λ i. same t.registers w i st.count) each (λ i. c.self (Reg d (suc (suc (suc (suc i))))))
+          (λ r i n. carry _ _ (lane_of (get_or s.registers r 0) i) _ (lane_of (get_or t.registers r 0) i) (other s.registers v r i n) (other t.registers w r i n) (c.self (Reg r i))) r i
       by false (Mem m) = c.self (Mem m)
 
   -- bytes are put into memory

@@ -16,7 +16,7 @@ use Rattle.replay_model.specs.Run.{Moment, start, advance, moment_after, trace, 
 use Rattle.replay_model.proofs.Track.{on_track_at, advance_plain}
 use Rattle.answer_meaning.specs.RunLaws.{IsRun, moment_at, under, byte_received, byte_at_sink, AlikeAt, AlikeElsewhere}
 use Rattle.decision_find.specs.Decisions.{decisions, moments_seen, Decision, decision, is_some_byte, decided_at, decided_from, decided}
-use Rattle.answer_meaning.specs.DecisionLaws.{NoneDiffers, IsUndecided, LengthsAreSame, EndsAreSame, StepsAreSame, ContentsAreSame, PathIsSame, ReceivedIsSame, RowsAreSame, AreRuns, NoInfluence}
+use Rattle.answer_meaning.specs.DecisionLaws.{NoneDiffers, IsUndecided, EndsAreSame, ContentsAreSame, PathIsSame, ReceivedIsSame, RowsAreSame, AreRuns, NoInfluence}
 use Rattle.std.proofs.lemmas.Bool.{cases_lt}
 use Rattle.isa.specs.declared.Instr.{Instr}
 use Rattle.isa.specs.declared.Instr.TheVariants.{Ecall}
@@ -366,7 +366,7 @@ module _ (introduces differs : SourceByte → Bool) (s : State) (a b : Log) (u :
   backwards : (t : ℕ) → t ≤ steps b → t < steps a → t < moments_seen b.end → SameKind (next (moment_at s b t).state) (next (moment_at s a t).state)
   backwards t h g k = kind_turned _ _ (of_one_kind t (omega arith) h (let z = steps_seen a.end in omega arith))
 
-  as_long : (n : ℕ) → EndsWithin n a.end → EndsWithin n b.end → steps a ≡ steps b
+  pub as_long : (n : ℕ) → EndsWithin n a.end → EndsWithin n b.end → steps a ≡ steps b
   as_long n x y = by (cases_lt (steps a) (steps b)) (cases_lt (steps b) (steps a))
     where
       by : (steps a < steps b) ⊎ (steps b ≤ steps a) → (steps b < steps a) ⊎ (steps a ≤ steps b) → steps a ≡ steps b
@@ -413,16 +413,10 @@ module _ (introduces differs : SourceByte → Bool) (s : State) (a b : Log) (u :
       absurd (omega (arith, ap steps_by e, ap end_at e, (exits_too s b a u.second u.first backwards at code f (omega arith)).1))
   one_end n first second e f x y h = absurd (omega (arith, ap steps_by e, ap steps_by f))
 
-pub lengths_are_same : LengthsAreSame
-lengths_are_same introduces differs s a b u n x y = as_long introduces differs s a b u n x y
-
 pub ends_are_same : EndsAreSame
 ends_are_same introduces differs s a b u n x y = one_end introduces differs s a b u n a.end b.end refl refl x y (as_long introduces differs s a b u n x y)
 
 -- ---- the laws
-
-pub steps_are_same : (rule : Rule) → DeterminedBy rule → StepsAreSame rule
-steps_are_same rule law introduces differs s a b u k h g = same_steps rule law introduces differs s a b u k h g
 
 pub contents_are_same : (rule : Rule) → DeterminedBy rule → ContentsAreSame rule
 contents_are_same rule law introduces differs s a b u t l h g clear =
@@ -501,7 +495,7 @@ no_influence program a b runs q differs is chosen none answers n x y =
     let second : IsRun b s = subst (IsRun b) (begins_alike program a b runs) (fits_makes_run program b runs.bytes runs.second runs.fits_too) in
     let listed : All (λ d. NoneDiffers differs d.sources) (decided (under Compute (has_source p)) s a) = subst (λ (r : Rule). All (λ d. NoneDiffers differs d.sources) (decided (under r (has_source p)) s a)) is none in
     let u : IsUndecided Compute (has_source p) differs s a b = record { first = fits_makes_run program a runs.bytes runs.first runs.fits; second = second; chosen = chosen; none = listed; answers = answers } in
-    let long = lengths_are_same (has_source p) differs s a b u n x y in
+    let long = as_long (has_source p) differs s a b u n x y in
     record {
       path = path_is_same Compute compute_determines (has_source p) differs s a b u long;
       end = ends_are_same (has_source p) differs s a b u n x y;

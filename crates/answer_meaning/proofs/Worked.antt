@@ -134,8 +134,22 @@ undecided runs answers e = record {
   answers = answers;
 }
 
-same_step : {s : State} {a b : Log} → IsRun a s × IsRun b s → SameAnswers all [] a.records b.records → (k : ℕ) → k < steps a → k < steps b → NothingListed s a → StepsAreSame Compute → SameStep Compute (moment_at s a k) (moment_at s b k)
-same_step {s = s} {a = a} {b = b} runs answers k h g e law = law all all s a b (undecided runs answers e) k h g
+-- a decision that the laws need: of two runs the first has it alone, though nothing comes to this location by its rule; were it
+-- not listed, a step would be the same that isn't
+record IsNeeded (s : State) (a b : Log) (ds : List Decision) (t : ℕ) (l : Loc) : Type 0 where
+  runs : IsRun a s × IsRun b s
+  decides : decided (under Compute all) s a ≡ ds
+  from_nowhere : origins (under Compute all) (trace s a) t l ≡ []
+  needed : NothingListed s a → StepsAreSame Compute → ⊥
+
+needed_at : {s : State} {a b : Log} {ds : List Decision} {t : ℕ} {l : Loc} → IsRun a s × IsRun b s → decided (under Compute all) s a ≡ ds → origins (under Compute all) (trace s a) t l ≡ []
+    → SameAnswers all [] a.records b.records → (k : ℕ) → k < steps a → k < steps b → (SameStep Compute (moment_at s a k) (moment_at s b k) → ⊥) → IsNeeded s a b ds t l
+needed_at {s = s} {a = a} {b = b} runs e f answers k h g differ = record {
+  runs = runs;
+  decides = e;
+  from_nowhere = f;
+  needed = λ none law. differ (law all all s a b (undecided runs answers none) k h g);
+}
 
 abbrev call_in : Option CallSeen → CallSeen
 call_in (Some call) = call
@@ -178,16 +192,13 @@ gone x y = log_of 60 6 1 60 1 (x ∷ []) (y ∷ [])
 abbrev branching : State
 branching = going (Beq 5 0 (pos 28))
 
-branching_runs : IsRun (gone 1 12) branching × IsRun (gone 0 36) branching
-branching_runs =
+branching_needed : IsNeeded branching (gone 1 12) (gone 0 36) (one_at 2 8 (Beq 5 0 (pos 28)) (Reg 5 0)) 6 (Mem 60)
+branching_needed =
     let sound = is_sound branching refl refl refl refl (omega arith) in
-    (wrote branching 60 5 1 60 1 (1 ∷ []) (12 ∷ []) sound refl refl refl, wrote branching 60 5 1 60 1 (0 ∷ []) (36 ∷ []) sound refl refl refl)
-
-branching_decides : (decided (under Compute all) branching (gone 1 12) ≡ one_at 2 8 (Beq 5 0 (pos 28)) (Reg 5 0)) × (origins (under Compute all) (trace branching (gone 1 12)) 6 (Mem 60) ≡ [])
-branching_decides = (refl, refl)
-
-branching_needed : NothingListed branching (gone 1 12) → StepsAreSame Compute → ⊥
-branching_needed e law = let z : Same 12 36 = (same_step branching_runs (λ asks. ((refl, λ i e. true-false e), λ asks. (refl, tt))) 3 (omega arith) (omega arith) e law).pc in absurd (omega arith)
+    needed_at (wrote branching 60 5 1 60 1 (1 ∷ []) (12 ∷ []) sound refl refl refl,
+    wrote branching 60 5 1 60 1 (0 ∷ []) (36 ∷ []) sound refl refl refl) refl refl
+    (λ asks. ((refl, λ i e. true-false e), λ asks. (refl, tt))) 3 (omega arith) (omega arith)
+    (λ same. let z : Same 12 36 = same.pc in absurd (omega arith))
 
 -- the traces are one, the output byte has no origin by index either, and it is another byte: the pcs at which AUIPC stands differ
 other_pcs : (trace branching (gone 1 12) ≡ trace branching (gone 0 36)) × (origins (under Index all) (trace branching (gone 1 12)) 6 (Mem 60) ≡ []) × (byte_written (gone 1 12) (record { channel = 1; offset = 0 }) ≡ 12)
@@ -197,30 +208,23 @@ other_pcs = (refl, refl, refl, refl, refl, refl)
 abbrev comparing : State
 comparing = going (Beq 0 5 (pos 28))
 
-comparing_runs : IsRun (gone 1 12) comparing × IsRun (gone 0 36) comparing
-comparing_runs =
+comparing_needed : IsNeeded comparing (gone 1 12) (gone 0 36) (one_at 2 8 (Beq 0 5 (pos 28)) (Reg 5 0)) 6 (Mem 60)
+comparing_needed =
     let sound = is_sound comparing refl refl refl refl (omega arith) in
-    (wrote comparing 60 5 1 60 1 (1 ∷ []) (12 ∷ []) sound refl refl refl, wrote comparing 60 5 1 60 1 (0 ∷ []) (36 ∷ []) sound refl refl refl)
-
-comparing_decides : (decided (under Compute all) comparing (gone 1 12) ≡ one_at 2 8 (Beq 0 5 (pos 28)) (Reg 5 0)) × (origins (under Compute all) (trace comparing (gone 1 12)) 6 (Mem 60) ≡ [])
-comparing_decides = (refl, refl)
-
-comparing_needed : NothingListed comparing (gone 1 12) → StepsAreSame Compute → ⊥
-comparing_needed e law = let z : Same 12 36 = (same_step comparing_runs (λ asks. ((refl, λ i e. true-false e), λ asks. (refl, tt))) 3 (omega arith) (omega arith) e law).pc in absurd (omega arith)
+    needed_at (wrote comparing 60 5 1 60 1 (1 ∷ []) (12 ∷ []) sound refl refl refl,
+    wrote comparing 60 5 1 60 1 (0 ∷ []) (36 ∷ []) sound refl refl refl) refl refl
+    (λ asks. ((refl, λ i e. true-false e), λ asks. (refl, tt))) 3 (omega arith) (omega arith)
+    (λ same. let z : Same 12 36 = same.pc in absurd (omega arith))
 
 abbrev jumping : State
 jumping = going (Jalr 0 5 (pos 0))
 
-jumping_runs : IsRun (gone 12 12) jumping × IsRun (gone 36 36) jumping
-jumping_runs =
+jumping_needed : IsNeeded jumping (gone 12 12) (gone 36 36) (one_at 2 8 (Jalr 0 5 (pos 0)) (Reg 5 0)) 6 (Mem 60)
+jumping_needed =
     let sound = is_sound jumping refl refl refl refl (omega arith) in
-    (wrote jumping 60 5 1 60 1 (12 ∷ []) (12 ∷ []) sound refl refl refl, wrote jumping 60 5 1 60 1 (36 ∷ []) (36 ∷ []) sound refl refl refl)
-
-jumping_decides : (decided (under Compute all) jumping (gone 12 12) ≡ one_at 2 8 (Jalr 0 5 (pos 0)) (Reg 5 0)) × (origins (under Compute all) (trace jumping (gone 12 12)) 6 (Mem 60) ≡ [])
-jumping_decides = (refl, refl)
-
-jumping_needed : NothingListed jumping (gone 12 12) → StepsAreSame Compute → ⊥
-jumping_needed e law = let z : Same 12 36 = (same_step jumping_runs (λ asks. ((refl, λ i e. true-false e), λ asks. (refl, tt))) 3 (omega arith) (omega arith) e law).pc in absurd (omega arith)
+    needed_at (wrote jumping 60 5 1 60 1 (12 ∷ []) (12 ∷ []) sound refl refl refl, wrote jumping 60 5 1 60 1 (36 ∷ []) (36 ∷ []) sound refl refl refl) refl refl
+    (λ asks. ((refl, λ i e. true-false e), λ asks. (refl, tt))) 3 (omega arith) (omega arith)
+    (λ same. let z : Same 12 36 = same.pc in absurd (omega arith))
 
 -- ---- the address of a load: index lists the byte, compute doesn't
 
@@ -237,11 +241,10 @@ loading_sound = is_sound loading refl refl refl refl (omega arith)
 loading_runs : IsRun (chosen 0 7) loading × IsRun (chosen 1 9) loading
 loading_runs = (wrote loading 60 4 1 60 1 (0 ∷ []) (7 ∷ []) loading_sound refl refl refl, wrote loading 60 4 1 60 1 (1 ∷ []) (9 ∷ []) loading_sound refl refl refl)
 
-loading_decides : (decided (under Compute all) loading (chosen 0 7) ≡ one_at 2 8 (Lbu 6 5 (pos 64)) (Reg 5 0)) × (origins (under Compute all) (trace loading (chosen 0 7)) 5 (Mem 60) ≡ [])
-loading_decides = (refl, refl)
-
-loading_needed : NothingListed loading (chosen 0 7) → StepsAreSame Compute → ⊥
-loading_needed e law = let z : Same 64 65 = ap (λ (x : StepSeen). x.place) (same_step loading_runs (λ asks. ((refl, λ i e. true-false e), λ asks. (refl, tt))) 2 (omega arith) (omega arith) e law).step in absurd (omega arith)
+loading_needed : IsNeeded loading (chosen 0 7) (chosen 1 9) (one_at 2 8 (Lbu 6 5 (pos 64)) (Reg 5 0)) 5 (Mem 60)
+loading_needed =
+    needed_at loading_runs refl refl (λ asks. ((refl, λ i e. true-false e), λ asks. (refl, tt))) 2 (omega arith) (omega arith)
+    (λ same. let z : Same 64 65 = ap (λ (x : StepSeen). x.place) same.step in absurd (omega arith))
 
 -- by the rule index it isn't listed, the runs take one path, and the byte is an origin
 one_path : SamePath Index loading (chosen 0 7) (chosen 1 9)
@@ -260,16 +263,12 @@ by_index = (refl, refl)
 abbrev storing : State
 storing = beginning_with (Ecall ∷ Lbu 5 11 (pos 0) ∷ Sb 5 12 (pos 64) ∷ Lbu 6 0 (pos 64) ∷ write_and_exit) 60 1 (0 ∷ 0 ∷ [])
 
-storing_runs : IsRun (gone 1 0) storing × IsRun (gone 0 1) storing
-storing_runs =
+storing_needed : IsNeeded storing (gone 1 0) (gone 0 1) (one_at 2 8 (Sb 5 12 (pos 64)) (Reg 5 0)) 6 (Mem 60)
+storing_needed =
     let sound = is_sound storing refl refl refl refl (omega arith) in
-    (wrote storing 60 5 1 60 1 (1 ∷ []) (0 ∷ []) sound refl refl refl, wrote storing 60 5 1 60 1 (0 ∷ []) (1 ∷ []) sound refl refl refl)
-
-storing_decides : (decided (under Compute all) storing (gone 1 0) ≡ one_at 2 8 (Sb 5 12 (pos 64)) (Reg 5 0)) × (origins (under Compute all) (trace storing (gone 1 0)) 6 (Mem 60) ≡ [])
-storing_decides = (refl, refl)
-
-storing_needed : NothingListed storing (gone 1 0) → StepsAreSame Compute → ⊥
-storing_needed e law = let z : Same 65 64 = ap (λ (x : StepSeen). x.place) (same_step storing_runs (λ asks. ((refl, λ i e. true-false e), λ asks. (refl, tt))) 2 (omega arith) (omega arith) e law).step in absurd (omega arith)
+    needed_at (wrote storing 60 5 1 60 1 (1 ∷ []) (0 ∷ []) sound refl refl refl, wrote storing 60 5 1 60 1 (0 ∷ []) (1 ∷ []) sound refl refl refl) refl refl
+    (λ asks. ((refl, λ i e. true-false e), λ asks. (refl, tt))) 2 (omega arith) (omega arith)
+    (λ same. let z : Same 65 64 = ap (λ (x : StepSeen). x.place) same.step in absurd (omega arith))
 
 -- the steps are one but for the place of the store; where it goes past 64 the output byte has no origin
 other_places : (map (λ (x : StepSeen). record x { place = 0 }) (trace storing (gone 0 1)) ≡ map (λ (x : StepSeen). record x { place = 0 }) (trace storing (gone 1 0)))
@@ -285,18 +284,12 @@ asking = beginning_with (Ecall ∷ Lbu 12 11 (pos 0) ∷ Sb 11 0 (pos 0) ∷ Add
 abbrev asked : ℕ → List ℕ → Log
 asked x ys = log_of 60 4 1 60 x (x ∷ []) ys
 
-asking_runs : IsRun (asked 1 (0 ∷ [])) asking × IsRun (asked 2 (0 ∷ 0 ∷ [])) asking
-asking_runs =
+asking_needed : IsNeeded asking (asked 1 (0 ∷ [])) (asked 2 (0 ∷ 0 ∷ [])) (one_at 4 16 Ecall (Reg 12 0)) 4 (Mem 60)
+asking_needed =
     let sound = is_sound asking refl refl refl refl (omega arith) in
-    (wrote asking 60 3 1 60 1 (1 ∷ []) (0 ∷ []) sound refl refl refl, wrote asking 60 3 1 60 2 (2 ∷ []) (0 ∷ 0 ∷ []) sound refl refl refl)
-
-asking_decides : (decided (under Compute all) asking (asked 1 (0 ∷ [])) ≡ one_at 4 16 Ecall (Reg 12 0)) × (origins (under Compute all) (trace asking (asked 1 (0 ∷ []))) 4 (Mem 60) ≡ [])
-asking_decides = (refl, refl)
-
-asking_needed : NothingListed asking (asked 1 (0 ∷ [])) → StepsAreSame Compute → ⊥
-asking_needed e law =
-    let z : Same 1 2 = ap (λ (x : StepSeen). (call_in x.call).length) (same_step asking_runs (λ asks. ((refl, λ i e. true-false e), λ asks. let z : Same 1 2 = ap (λ (xs : List ℕ). get_or xs 2 0) asks.1 in absurd (omega arith))) 4 (omega arith) (omega arith) e law).step in
-    absurd (omega arith)
+    needed_at (wrote asking 60 3 1 60 1 (1 ∷ []) (0 ∷ []) sound refl refl refl, wrote asking 60 3 1 60 2 (2 ∷ []) (0 ∷ 0 ∷ []) sound refl refl refl) refl refl
+    (λ asks. ((refl, λ i e. true-false e), λ asks. let z : Same 1 2 = ap (λ (xs : List ℕ). get_or xs 2 0) asks.1 in absurd (omega arith))) 4 (omega arith) (omega arith)
+    (λ same. let z : Same 1 2 = ap (λ (x : StepSeen). (call_in x.call).length) same.step in absurd (omega arith))
 
 -- writes a zero on the channel that the byte says
 abbrev sorting : State
@@ -305,18 +298,12 @@ sorting = beginning_with (Ecall ∷ Lbu 10 11 (pos 0) ∷ Sb 11 0 (pos 0) ∷ Ad
 abbrev sorted : ℕ → Log
 sorted x = log_of 60 4 x 60 1 (x ∷ []) (0 ∷ [])
 
-sorting_runs : IsRun (sorted 2) sorting × IsRun (sorted 3) sorting
-sorting_runs =
+sorting_needed : IsNeeded sorting (sorted 2) (sorted 3) (one_at 4 16 Ecall (Reg 10 0)) 4 (Mem 60)
+sorting_needed =
     let sound = is_sound sorting refl refl refl refl (omega arith) in
-    (wrote sorting 60 3 2 60 1 (2 ∷ []) (0 ∷ []) sound refl refl refl, wrote sorting 60 3 3 60 1 (3 ∷ []) (0 ∷ []) sound refl refl refl)
-
-sorting_decides : (decided (under Compute all) sorting (sorted 2) ≡ one_at 4 16 Ecall (Reg 10 0)) × (origins (under Compute all) (trace sorting (sorted 2)) 4 (Mem 60) ≡ [])
-sorting_decides = (refl, refl)
-
-sorting_needed : NothingListed sorting (sorted 2) → StepsAreSame Compute → ⊥
-sorting_needed e law =
-    let z : Same 2 3 = ap (λ (x : StepSeen). (call_in x.call).channel) (same_step sorting_runs (λ asks. ((refl, λ i e. true-false e), λ asks. let z : Same 2 3 = ap (λ (xs : List ℕ). get_or xs 0 0) asks.1 in absurd (omega arith))) 4 (omega arith) (omega arith) e law).step in
-    absurd (omega arith)
+    needed_at (wrote sorting 60 3 2 60 1 (2 ∷ []) (0 ∷ []) sound refl refl refl, wrote sorting 60 3 3 60 1 (3 ∷ []) (0 ∷ []) sound refl refl refl) refl refl
+    (λ asks. ((refl, λ i e. true-false e), λ asks. let z : Same 2 3 = ap (λ (xs : List ℕ). get_or xs 0 0) asks.1 in absurd (omega arith))) 4 (omega arith) (omega arith)
+    (λ same. let z : Same 2 3 = ap (λ (x : StepSeen). (call_in x.call).channel) same.step in absurd (omega arith))
 
 -- makes the call of the byte's number; 5 is no call's
 abbrev calling : State
@@ -328,18 +315,13 @@ called = log_of 60 3 1 60 1 (64 ∷ []) (0 ∷ [])
 abbrev not_called : Log
 not_called = log_with 60 (5 ∷ []) (Other 3 5 ∷ []) (Exit 5 4294967258)
 
-calling_runs : IsRun called calling × IsRun not_called calling
-calling_runs =
-    let sound = is_sound calling refl refl refl refl (omega arith) in (
-      wrote calling 60 2 1 60 1 (64 ∷ []) (0 ∷ []) sound refl refl refl,
-      record { form = is_log 60 (5 ∷ []) (Other 3 5 ∷ []) (Exit 5 4294967258) refl ((omega arith, omega arith), tt) (omega arith, omega arith) (omega arith, tt) (omega arith); sound = sound; agrees = refl },
-    )
-
-calling_decides : (decided (under Compute all) calling called ≡ one_at 3 12 Ecall (Reg 17 0)) × (origins (under Compute all) (trace calling called) 3 (Mem 60) ≡ [])
-calling_decides = (refl, refl)
-
-calling_needed : NothingListed calling called → StepsAreSame Compute → ⊥
-calling_needed e law = let z : Same 2 4 = ap (λ (x : StepSeen). call_event (call_in x.call).kind) (same_step calling_runs (λ asks. ((refl, λ i e. true-false e), λ asks. absurd asks)) 3 (omega arith) (omega arith) e law).step in absurd (omega arith)
+calling_needed : IsNeeded calling called not_called (one_at 3 12 Ecall (Reg 17 0)) 3 (Mem 60)
+calling_needed =
+    let sound = is_sound calling refl refl refl refl (omega arith) in
+    let other = is_log 60 (5 ∷ []) (Other 3 5 ∷ []) (Exit 5 4294967258) refl ((omega arith, omega arith), tt) (omega arith, omega arith) (omega arith, tt) (omega arith) in
+    needed_at (wrote calling 60 2 1 60 1 (64 ∷ []) (0 ∷ []) sound refl refl refl, record { form = other; sound = sound; agrees = refl }) refl refl
+    (λ asks. ((refl, λ i e. true-false e), λ asks. absurd asks)) 3 (omega arith) (omega arith)
+    (λ same. let z : Same 2 4 = ap (λ (x : StepSeen). call_event (call_in x.call).kind) same.step in absurd (omega arith))
 
 -- writes the byte at the address that the byte is
 abbrev sending : State
@@ -348,18 +330,12 @@ sending = beginning_with (Ecall ∷ Lbu 11 11 (pos 0) ∷ Addi 17 0 (pos 64) ∷
 abbrev sent : ℕ → ℕ → Log
 sent x y = log_of 60 3 1 x 1 (x ∷ []) (y ∷ [])
 
-sending_runs : IsRun (sent 64 7) sending × IsRun (sent 65 9) sending
-sending_runs =
+sending_needed : IsNeeded sending (sent 64 7) (sent 65 9) (one_at 3 12 Ecall (Reg 11 0)) 3 (Mem 64)
+sending_needed =
     let sound = is_sound sending refl refl refl refl (omega arith) in
-    (wrote sending 60 2 1 64 1 (64 ∷ []) (7 ∷ []) sound refl refl refl, wrote sending 60 2 1 65 1 (65 ∷ []) (9 ∷ []) sound refl refl refl)
-
-sending_decides : (decided (under Compute all) sending (sent 64 7) ≡ one_at 3 12 Ecall (Reg 11 0)) × (origins (under Compute all) (trace sending (sent 64 7)) 3 (Mem 64) ≡ [])
-sending_decides = (refl, refl)
-
-sending_needed : NothingListed sending (sent 64 7) → StepsAreSame Compute → ⊥
-sending_needed e law =
-    let z : Same 64 65 = ap (λ (x : StepSeen). (call_in x.call).place) (same_step sending_runs (λ asks. ((refl, λ i e. true-false e), λ asks. let z : Same 64 65 = ap (λ (xs : List ℕ). get_or xs 1 0) asks.1 in absurd (omega arith))) 3 (omega arith) (omega arith) e law).step in
-    absurd (omega arith)
+    needed_at (wrote sending 60 2 1 64 1 (64 ∷ []) (7 ∷ []) sound refl refl refl, wrote sending 60 2 1 65 1 (65 ∷ []) (9 ∷ []) sound refl refl refl) refl refl
+    (λ asks. ((refl, λ i e. true-false e), λ asks. let z : Same 64 65 = ap (λ (xs : List ℕ). get_or xs 1 0) asks.1 in absurd (omega arith))) 3 (omega arith) (omega arith)
+    (λ same. let z : Same 64 65 = ap (λ (x : StepSeen). (call_in x.call).place) same.step in absurd (omega arith))
 
 -- ---- an instruction
 
@@ -370,16 +346,12 @@ patching = beginning_with (Ecall ∷ Addi 6 0 (pos 0) ∷ Addi 11 0 (pos 60) ∷
 abbrev patched : ℕ → ℕ → Log
 patched x y = log_of 7 5 1 60 1 (x ∷ []) (y ∷ [])
 
-patching_runs : IsRun (patched 1 16) patching × IsRun (patched 2 32) patching
-patching_runs =
+patching_needed : IsNeeded patching (patched 1 16) (patched 2 32) (one_at 1 4 (Addi 6 0 (pos 16)) (Mem 7)) 5 (Mem 60)
+patching_needed =
     let sound = is_sound patching refl refl refl refl (omega arith) in
-    (wrote patching 7 4 1 60 1 (1 ∷ []) (16 ∷ []) sound refl refl refl, wrote patching 7 4 1 60 1 (2 ∷ []) (32 ∷ []) sound refl refl refl)
-
-patching_decides : (decided (under Compute all) patching (patched 1 16) ≡ one_at 1 4 (Addi 6 0 (pos 16)) (Mem 7)) × (origins (under Compute all) (trace patching (patched 1 16)) 5 (Mem 60) ≡ [])
-patching_decides = (refl, refl)
-
-patching_needed : NothingListed patching (patched 1 16) → StepsAreSame Compute → ⊥
-patching_needed e law = let z : Same 16 32 = ap (λ (x : StepSeen). number_in x.instr) (same_step patching_runs (λ asks. ((refl, λ i e. true-false e), λ asks. (refl, tt))) 1 (omega arith) (omega arith) e law).step in absurd (omega arith)
+    needed_at (wrote patching 7 4 1 60 1 (1 ∷ []) (16 ∷ []) sound refl refl refl, wrote patching 7 4 1 60 1 (2 ∷ []) (32 ∷ []) sound refl refl refl) refl refl
+    (λ asks. ((refl, λ i e. true-false e), λ asks. (refl, tt))) 1 (omega arith) (omega arith)
+    (λ same. let z : Same 16 32 = ap (λ (x : StepSeen). number_in x.instr) same.step in absurd (omega arith))
 
 -- ---- the end
 
