@@ -196,14 +196,24 @@ Nest few many = Relates few many Within
 
 pub copy_in_keep : Nest Copy Keep
 copy_in_keep = record {
-  none = within_same; moves = λ r i. within_same; loads = λ address i. within_same;
-  computes = λ origins i. within_same; keeps = λ kept origins i h w. within_none; bases = λ a ls h. within_same; extends = λ a place n i. within_same;
+  none = within_same;
+  moves = λ r i. within_same;
+  loads = λ address i. within_same;
+  computes = λ origins i. within_same;
+  keeps = λ kept origins i h w. within_none;
+  bases = λ a ls h. within_same;
+  extends = λ a place n i. within_same;
 }
 
 pub keep_in_compute : Nest Keep Compute
 keep_in_compute = record {
-  none = within_same; moves = λ r i. within_same; loads = λ address i. within_same;
-  computes = λ origins i. within_none; keeps = λ kept origins i h w. w; bases = λ a ls h. within_same; extends = λ a place n i. load (nat_lt i n) place n i;
+  none = within_same;
+  moves = λ r i. within_same;
+  loads = λ address i. within_same;
+  computes = λ origins i. within_none;
+  keeps = λ kept origins i h w. w;
+  bases = λ a ls h. within_same;
+  extends = λ a place n i. load (nat_lt i n) place n i;
 }
   where
     load : (b : Bool) (place n i : ℕ) → Within (cond b (byte_of place i) []) (byte_of place (cond b i (n - 1)))
@@ -212,8 +222,13 @@ keep_in_compute = record {
 
 pub compute_in_index : Nest Compute Index
 compute_in_index = record {
-  none = within_same; moves = λ r i. within_same; loads = λ address i. within_same;
-  computes = λ origins i. within_same; keeps = λ kept origins i h w. within_same; bases = λ a ls h. within_union (lanes a); extends = λ a place n i. within_union (lanes a);
+  none = within_same;
+  moves = λ r i. within_same;
+  loads = λ address i. within_same;
+  computes = λ origins i. within_same;
+  keeps = λ kept origins i h w. within_same;
+  bases = λ a ls h. within_union (lanes a);
+  extends = λ a place n i. within_union (lanes a);
 }
 
 module _ {few many : Rule} (c : Nest few many) where

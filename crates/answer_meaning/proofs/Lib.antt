@@ -7,9 +7,7 @@ mod Runs
 mod Matters
 mod Ranges
 mod Paths
-mod Outcomes
 mod Alike
 mod Together
 mod Recordings
 mod Worked
-mod Applied

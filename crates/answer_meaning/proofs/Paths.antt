@@ -30,13 +30,12 @@ use Rattle.path_find.specs.Paths.{IsPath, IsLatest}
 use Rattle.path_find.proofs.Origins.{path_had, contains_had}
 use Rattle.std.specs.Ordering.{is_eq}
 use Rattle.std.proofs.lemmas.Bool.Decides.{nat_tests}
-use Rattle.flow_model.specs.declared.InnerSink.{InnerSink}
-use Rattle.flow_model.specs.declared.SinkByte.{SinkByte}
 use Rattle.flow_model.specs.declared.SinkPoint.{SinkPoint}
 use Rattle.flow_model.specs.declared.SinkPoint.TheVariants.{Out, At}
 use Rattle.flow_model.specs.Orders.{point_cmp}
 use Rattle.flow_model.proofs.Orders.{inner_total, inner_same}
 use Rattle.lists.proofs.Algebra.{Contains-has}
+use Rattle.lists.proofs.Lists.{all-weaken}
 use Rattle.report_model.specs.Query.{Query, AreLocated, has_sink}
 use Rattle.report_model.specs.Rows.{Sink, point_sink, chosen_sinks}
 use Rattle.report_model.proofs.Members.{some-each-too, some-gives}
@@ -112,22 +111,19 @@ module _ (copied : CopiedContents) (log : Log) (s : State) (run : IsRun log s) (
   latest : (t : ℕ) (l : Loc) (a : Arrival) → IsLatest rule (trace s log) t l a → IsLatest rule (trace s log) (a.number + 1) a.loc a
   latest t l a h = record { there = refl; before = omega arith; still = λ u low high. absurd (omega arith) }
 
-  at_arrival : (t : ℕ) (l : Loc) (a : Arrival) (rest : List Arrival) → IsPath rule b (trace s log) t l (a ∷ rest) → IsPath rule b (trace s log) (a.number + 1) a.loc (a ∷ rest)
-  at_arrival t l a [] h = (latest t l a h.0, h.1)
-  at_arrival t l a (x ∷ xs) h = (latest t l a h.0, h.1, h.2)
-
-  -- the arrival was before the path's end
-  before_end : (t : ℕ) (l : Loc) (a : Arrival) (rest : List Arrival) → IsPath rule b (trace s log) t l (a ∷ rest) → a.number < t
-  before_end t l a [] h = h.0.before
-  before_end t l a (x ∷ xs) h = h.0.before
+  -- and the arrival was before the path's end
+  at_arrival : (t : ℕ) (l : Loc) (a : Arrival) (rest : List Arrival) → IsPath rule b (trace s log) t l (a ∷ rest) → (a.number < t) × IsPath rule b (trace s log) (a.number + 1) a.loc (a ∷ rest)
+  at_arrival t l a [] h = (h.0.before, (latest t l a h.0, h.1))
+  at_arrival t l a (x ∷ xs) h = (h.0.before, (latest t l a h.0, h.1, h.2))
 
   each : (p : List Arrival) (t : ℕ) (l : Loc) → t ≤ steps log → AllByRecursion (λ a. IsLocation a.loc) p → IsPath rule b (trace s log) t l p → AllByRecursion (HasByte s log (byte_received log b)) p
   each [] t l inside here h = tt
-  each (a ∷ []) t l inside here h = (at_end (a.number + 1) a.loc (a ∷ []) (omega (arith, before_end t l a [] h)) here.0 (at_arrival t l a [] h), tt)
-  each (a ∷ x ∷ xs) t l inside here h = (
-    at_end (a.number + 1) a.loc (a ∷ x ∷ xs) (omega (arith, before_end t l a (x ∷ xs) h)) here.0 (at_arrival t l a (x ∷ xs) h),
-    each (x ∷ xs) a.number x.loc (omega (arith, before_end t l a (x ∷ xs) h)) here.1 h.2,
-  )
+  each (a ∷ []) t l inside here h = let there = at_arrival t l a [] h in (at_end (a.number + 1) a.loc (a ∷ []) (omega (arith, there.0)) here.0 there.1, tt)
+  each (a ∷ x ∷ xs) t l inside here h =
+      let there = at_arrival t l a (x ∷ xs) h in (
+        at_end (a.number + 1) a.loc (a ∷ x ∷ xs) (omega (arith, there.0)) here.0 there.1,
+        each (x ∷ xs) a.number x.loc (omega (arith, there.0)) here.1 h.2,
+      )
 
 pub path_holds_byte : CopiedContents → PathIsOfLocations → PathHoldsByte
 path_holds_byte copied located log s run rule only b t l p inside here h = (
@@ -144,22 +140,18 @@ record IsInside (log : Log) (x : Sink) : Type 0 where
 
 module _ (log : Log) (s : State) (q : Query) (located : AreLocated q.points) where
   each_inside : AllByRecursion (IsInside log) (chosen_sinks q (trace s log))
-  each_inside = all_sinks (IsInside log) q s log (points q.points (recursion_from_All (λ p. IsLocation p.loc) q.points located))
+  each_inside = all_sinks (IsInside log) q s log
+      (all-weaken (λ p. IsLocation p.loc) (λ p. p.time ≤ steps log → IsInside log (point_sink p)) (λ p here inside. record { time = inside; loc = here }) q.points
+      (recursion_from_All (λ p. IsLocation p.loc) q.points located))
       (λ t h call e w i g. record { time = omega arith; loc = wrap-lt (call.place + i) })
-    where
-      points : (ps : List InnerSink) → AllByRecursion (λ p. IsLocation p.loc) ps → AllByRecursion (λ p. p.time ≤ steps log → IsInside log (point_sink p)) ps
-      points [] h = tt
-      points (p ∷ ps) h = (λ le. record { time = le; loc = h.0 }, points ps h.1)
 
-  out_inside : (b : SinkByte) (x : Sink) → has_sink q (Out b) ≡ true → sink_of (trace s log) (Out b) ≡ Some x → IsInside log x
-  out_inside b x chosen e =
+  sink_inside : (name : SinkPoint) (x : Sink) → has_sink q name ≡ true → sink_of (trace s log) name ≡ Some x → IsInside log x
+  sink_inside (Out b) x chosen e =
       let found = found_in (λ z. is_eq (point_cmp (Out b) z.name)) (written_from 0 (trace s log)) x e in
       let among = written_chosen q b x (sym (named (Out b) x.name found.1)) chosen 0 (trace s log) found.0 in
       some-gives (λ z. (z ≡ x) × IsInside log z) (IsInside log x) (λ z h. subst (IsInside log) h.0 h.1) (chosen_sinks q (trace s log))
       (some-each-too (λ z. z ≡ x) (IsInside log) (chosen_sinks q (trace s log)) among each_inside)
-
-  at_inside : (p : InnerSink) (x : Sink) → has_sink q (At p) ≡ true → sink_of (trace s log) (At p) ≡ Some x → IsInside log x
-  at_inside p x chosen e = by (nat_le p.time (length (trace s log))) refl e
+  sink_inside (At p) x chosen e = by (nat_le p.time (length (trace s log))) refl e
     where
       here : IsLocation p.loc
       here = All-contains (λ z. IsLocation z.loc) q.points p located (Contains-has inner_total inner_same q.points p chosen)
@@ -173,10 +165,6 @@ module _ (log : Log) (s : State) (q : Query) (located : AreLocated q.points) whe
           let low = inside le in
           subst (IsInside log) same (record { time = omega (arith, low, length-steps_from (steps log) (start s log)); loc = here })
       by false le e = absurd cc
-
-  sink_inside : (name : SinkPoint) (x : Sink) → has_sink q name ≡ true → sink_of (trace s log) name ≡ Some x → IsInside log x
-  sink_inside (Out b) x chosen e = out_inside b x chosen e
-  sink_inside (At p) x chosen e = at_inside p x chosen e
 
 pub told_path_holds_byte : OnePathIsPath → PathHoldsByte → ToldPathHoldsByte
 told_path_holds_byte is_path holds log s run q only located name b p e =

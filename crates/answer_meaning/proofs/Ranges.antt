@@ -18,7 +18,7 @@ use Rattle.range_report.specs.Runs.{is_output, has_any, output_rows, is_moved, r
 use Rattle.range_report.specs.Text.{byte_of, byte_written, byte_received, holds_sources, kind_of, sources_of, written_in, received_in}
 use Rattle.range_report.specs.RunLaws.{RunsHoldRows, AreLongest, HasBytes, SameHoldsRange}
 use Rattle.answer_meaning.specs.RangeMeaning.{CopiedAreUnchanged, MovesAreUnchanged, LinesAreMoved, HoldsSameBytes, SameIsSame}
-use Rattle.lists.proofs.Lists.{all-parts}
+use Rattle.lists.proofs.Lists.{all-append, all-parts}
 use Rattle.log_model.specs.Moved.{received, written}
 use Rattle.replay_model.specs.Run.{trace}
 use Rattle.answer_meaning.specs.MovedLaws.{WasReceived, WasWritten, IsOfMovedBytes, RowsAreOfMovedBytes}
@@ -126,12 +126,7 @@ module _ (log : Log) where
 
   all_sources : (rs : List Row) → AllByRecursion IsMoved rs → AllByRecursion (WasReceived log) (flat_map (λ (s : Row). s.sources) rs)
   all_sources [] h = tt
-  all_sources (r ∷ rs) h = both (all_sources rs h.1) r.sources h.0.sources
-    where
-      both : AllByRecursion (WasReceived log) (flat_map (λ (s : Row). s.sources) rs) → (bs : List SourceByte) → AllByRecursion (WasReceived log) bs
-          → AllByRecursion (WasReceived log) (bs ++ flat_map (λ (s : Row). s.sources) rs)
-      both rest [] g = rest
-      both rest (b ∷ bs) g = (g.0, both rest bs g.1)
+  all_sources (r ∷ rs) h = all-append (WasReceived log) r.sources (flat_map (λ (s : Row). s.sources) rs) h.0.sources (all_sources rs h.1)
 
   run_sources : (r : Row) (rs : List Row) → AllByRecursion IsMoved (r ∷ rs) → AllByRecursion (WasReceived log) (sources_of (r ∷ rs))
   run_sources r rs h = by (is_moved (r ∷ rs))

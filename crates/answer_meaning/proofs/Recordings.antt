@@ -27,8 +27,7 @@ use Rattle.answer_meaning.proofs.Steps.{Does, Plain, Calls, does}
 use Rattle.answer_meaning.specs.Environments.{BytesAlike, SameAnswers}
 use Rattle.answer_meaning.specs.DecisionLaws.{AreRuns}
 use Rattle.answer_meaning.specs.Recordings.{AreSettingsAlike, AreAnswersAlike, RecordingsAreAlike}
-use Rattle.answer_meaning.proofs.Outcomes.{SameWindow, window_at}
-use Rattle.answer_meaning.proofs.Alike.{left_after, read_arguments, write_arguments, kept_length, kept_if}
+use Rattle.answer_meaning.proofs.Alike.{SameWindow, window_at, left_after, read_arguments, write_arguments, kept_length, kept_if}
 use Rattle.answer_meaning.proofs.Together.{moved_by, begins_alike, no_influence}
 use Rattle.decision_find.proofs.Answered.{IsCallAt, call_at_time, none_left}
 use Rattle.replay_model.specs.Comparison.{result as result_compared}

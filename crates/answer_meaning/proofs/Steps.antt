@@ -1,8 +1,8 @@
 -- One step of a run.
-use Rattle.std.proofs.Common.{◌≡◌, ℕ, suc, ◌-◌, ◌^◌, ◌<◌, Some, None, arith, zero, ◌+◌, ◌/◌, ◌%◌, ◌≤◌, ◌⊎◌, inl, inr, Bool, true, false, cond, List, [], ◌∷◌, refl, ap, sym, ◌∙◌, subst, length, get_or, ℤ, eqb-true, ltb-false, get_or-set_same, get_or-set_other, Option, ltb-true}
-use Rattle.std.specs.Prelude.{◌==◌, nat_lt, slice_set, ◌&&◌, if◌then◌else◌}
+use Rattle.std.proofs.Common.{◌≡◌, ℕ, suc, ◌-◌, ◌^◌, ◌<◌, Some, None, arith, ◌+◌, ◌/◌, ◌%◌, ◌≤◌, ◌⊎◌, inl, inr, Bool, true, false, List, [], ◌∷◌, refl, ap, sym, ◌∙◌, subst, length, get_or, ℤ, ltb-false, get_or-set_same, get_or-set_other, Option, ltb-true}
+use Rattle.std.specs.Prelude.{nat_lt, slice_set, if◌then◌else◌}
 use Rattle.std.proofs.lemmas.List.{set_comm}
-use Rattle.std.proofs.lemmas.Bool.{eqb-false, cases_lt}
+use Rattle.std.proofs.lemmas.Bool.{cases_lt}
 use Rattle.isa.specs.declared.CallKind.{CallKind}
 use Rattle.isa.specs.Machine.{State, overwritten, as_word, wrap, Outcome, Retired, Called, Trapped, next, execute, effect_of, place_of}
 use Rattle.isa.specs.Calls.{channel_of, buffer_of, no_such_call, after_read, after_clock, after_exit}

@@ -34,8 +34,7 @@ use Rattle.answer_meaning.specs.StepLaws.{DeterminedBy, SameStep, bytes_given, a
 use Rattle.answer_meaning.proofs.Steps.{none_is, some_is, Does, Plain, Calls, does, instruction_step, received_is_there, state_given, compute_determines}
 use Rattle.answer_meaning.proofs.Targets.{word_agrees}
 use Rattle.answer_meaning.proofs.Runs.{content_after, ReceivesAlike, alike_next, on_track, done_at, sound_at, fits_makes_run, determined_rows}
-use Rattle.answer_meaning.proofs.Outcomes.{window_at, AlikeOutcomes, next_alike, same_fetched, places_alike}
-use Rattle.answer_meaning.proofs.Alike.{IsExitAt, AreAlike, both_answered, done_after, left_after, not_exit, exits_at}
+use Rattle.answer_meaning.proofs.Alike.{window_at, AlikeOutcomes, next_alike, same_fetched, places_alike, IsExitAt, AreAlike, both_answered, done_after, left_after, not_exit, exits_at}
 use Rattle.decision_find.proofs.Answered.{call_at_time, IsCallAt, traps_at, none_left}
 use Rattle.isa.specs.declared.Call.{Call}
 use Rattle.isa.specs.declared.CallKind.{CallKind}
@@ -435,8 +434,6 @@ done_at_end log s run =
     sym (append-nil m.done) ∙ ap (λ (left : List CallRecord). m.done ++ left) (sym (none_left log m there.on (omega arith))) ∙ there.on.all
 
 done_by : (log : Log) (s : State) (end : RunEnd) → IsRun log s → log.end ≡ end → (moment_at s log (steps_by end)).done ≡ log.records
-done_by log s (Trap at k pc) run e = ap (λ (t : RunEnd). (moment_at s log (end_at t)).done) (sym e) ∙ done_at_end log s run
-done_by log s (Limit at) run e = ap (λ (t : RunEnd). (moment_at s log (end_at t)).done) (sym e) ∙ done_at_end log s run
 done_by log s (Exit at code) run e =
     let m = moment_at s log at in
     let exit = exits_at log s at code run e in
@@ -450,6 +447,7 @@ done_by log s (Exit at code) run e =
     ∙ (moved_by m m.left refl).done
     ∙ ap (done_after m.done) none
     ∙ ap (λ (t : RunEnd). (moment_at s log (end_at t)).done) (sym e) ∙ done_at_end log s run
+done_by log s other run e = ap (λ (t : RunEnd). (moment_at s log (end_at t)).done) (sym e) ∙ done_at_end log s run
 
 all_done : (log : Log) (s : State) → IsRun log s → (moment_at s log (steps log)).done ≡ log.records
 all_done log s run = done_by log s log.end run refl

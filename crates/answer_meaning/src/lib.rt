@@ -1,9 +1,9 @@
 //! What the flow table, and the answers of `path`, `show` and `decisions`, mean of the values of a run (docs/MEANING.md reads it
 //! aloud).
 //!
-//! What there is to read stands in specs/. proofs/Worked.antt has examples of what the laws don't say, and shows of each kind of
-//! decision that the laws would be false without it; proofs/Matters.antt holds the flow table against values, and
-//! proofs/Applied.antt has two programs of which the laws of decisions ask nothing that isn't computed.
+//! What there is to read stands in specs/. proofs/Worked.antt has examples of what the laws don't say, shows of each kind of
+//! decision that the laws would be false without it, and has two programs of which the laws of decisions ask nothing that isn't
+//! computed; proofs/Matters.antt holds the flow table against values.
 //!
 //! Proved (`laws`): a row's output byte was written, and its sources were received; by `copy` and by `keep` a row has at
 //! most one source byte, and the two bytes are equal; by `compute` two runs along one path, with the same bytes at a row's

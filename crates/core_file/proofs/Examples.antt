@@ -44,50 +44,23 @@ bytes signal pc x5 word =
     pc ∷ 0x00 ∷ 0x01 ∷ 0x00 ∷ zeros 16 ++ x5 ∷ zeros 107 ++ zeros 4 ++
     code word
 
-at_its_beginning : core_file (begun ebreak) (log 3) 0 ≡ bytes 5 0x00 0 ebreak
+-- at its beginning, at its trap, and past its end
+at_a_trap : (core_file (begun ebreak) (log 3) 0 ≡ bytes 5 0x00 0 ebreak) × (core_file (begun ebreak) (log 3) 1 ≡ bytes 5 0x04 7 ebreak)
+    × (core_file (begun ebreak) (log 3) 9 ≡ bytes 5 0x04 7 ebreak)
 unfolding core_mark note
-at_its_beginning = refl
+at_a_trap = (refl, refl, refl)
 
-at_its_trap : core_file (begun ebreak) (log 3) 1 ≡ bytes 5 0x04 7 ebreak
+-- before and at a word that stands for no instruction
+at_an_illegal_instruction : (core_file (begun (zeros 4)) (log 2) 0 ≡ bytes 5 0x00 0 (zeros 4)) × (core_file (begun (zeros 4)) (log 2) 1 ≡ bytes 4 0x04 7 (zeros 4))
 unfolding core_mark note
-at_its_trap = refl
-
-past_its_end : core_file (begun ebreak) (log 3) 9 ≡ bytes 5 0x04 7 ebreak
-unfolding core_mark note
-past_its_end = refl
-
--- a word that stands for no instruction
-before_a_trap : core_file (begun (zeros 4)) (log 2) 0 ≡ bytes 5 0x00 0 (zeros 4)
-unfolding core_mark note
-before_a_trap = refl
-
-at_an_illegal_instruction : core_file (begun (zeros 4)) (log 2) 1 ≡ bytes 4 0x04 7 (zeros 4)
-unfolding core_mark note
-at_an_illegal_instruction = refl
+at_an_illegal_instruction = (refl, refl)
 
 -- ---- signals
 
-misaligned : trap_signal 0 ≡ 7
-misaligned = refl
-
-illegal : trap_signal 2 ≡ 4
-illegal = refl
-
-breakpoint : trap_signal 3 ≡ 5
-breakpoint = refl
-
-fetch_outside : trap_signal 1 ≡ 11
-fetch_outside = refl
-
-load_outside : trap_signal 5 ≡ 11
-load_outside = refl
-
-store_outside : trap_signal 7 ≡ 11
-store_outside = refl
+-- misaligned; illegal; a breakpoint; what is fetched, loaded or stored outside
+signals : (trap_signal 0 ≡ 7) × (trap_signal 2 ≡ 4) × (trap_signal 3 ≡ 5) × (trap_signal 1 ≡ 11) × (trap_signal 5 ≡ 11) × (trap_signal 7 ≡ 11)
+signals = (refl, refl, refl, refl, refl, refl)
 
 -- a run that exited, or was cut off, stands at no trap
-exited : signal_after (Exit 4 0) 5 ≡ 5
-exited = refl
-
-cut_off : signal_after (Limit 4) 4 ≡ 5
-cut_off = refl
+at_no_trap : (signal_after (Exit 4 0) 5 ≡ 5) × (signal_after (Limit 4) 4 ≡ 5)
+at_no_trap = (refl, refl)

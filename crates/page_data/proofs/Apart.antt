@@ -3,12 +3,12 @@ use Rattle.std.proofs.Common.{◌≡◌, ◌∙◌, ap, ap₂, sym, refl, arith,
 use Rattle.std.specs.Prelude.{codes, Option, Some, None}
 use Rattle.std.specs.List.{flat_map, AllByRecursion}
 use Rattle.std.specs.Char.{digit_value}
+use Rattle.std.proofs.lemmas.Bool.{and_parts}
 use Rattle.std.proofs.lemmas.Bool.Decides.{nat_tests}
-use Rattle.lists.proofs.Lists.{same-tails}
+use Rattle.lists.proofs.Lists.{same-heads, same-tails}
 use Rattle.flow_model.specs.declared.Loc.{Loc}
 use Rattle.flow_model.specs.declared.Loc.TheVariants.{Reg, Mem}
 use Rattle.flow_model.specs.declared.SourceByte.{SourceByte}
-use Rattle.flow_model.specs.declared.SinkByte.{SinkByte}
 use Rattle.flow_model.specs.declared.InnerSink.{InnerSink}
 use Rattle.flow_model.specs.declared.SinkPoint.{SinkPoint}
 use Rattle.flow_model.specs.declared.SinkPoint.TheVariants.{Out, At}
@@ -19,75 +19,37 @@ use Rattle.run_output.specs.Summary.{number_line}
 use Rattle.source_ranges.specs.declared.SourceRange.{SourceRange}
 use Rattle.source_ranges.specs.Ranges.{bytes_of, range_of, is_just_before, with_byte, ranges_of}
 use Rattle.source_ranges.proofs.Longest.{ranges_hold_bytes}
-use Rattle.page_data.specs.Rows.{range_word, ranges_text, is_next_address, is_next, is_moved, each_moved, are_moved, goes_on, whole_row, row_after, rows_after, joined_rows}
+use Rattle.page_data.specs.Rows.{range_word, ranges_text, is_next_address, is_next, are_moved, goes_on, whole_row, row_after, rows_after, joined_rows}
 use Rattle.page_data.specs.Data.{Asked, run_text, told_text, data_text}
 use Rattle.page_data.specs.PageLaws.{IsSmallSource, IsSmallRow, DataTellReports}
+use Rattle.page_data.proofs.MovedRanges.{moved_is}
 use Rattle.page_data.proofs.Told.{IsSmallRange, Stopped, stopped, same_ranges, same_point, point_begins}
 
 -- ---- a row that goes on is known from the row before it
 
-same_source : (a b : SourceByte) → a.channel ≡ b.channel → a.offset ≡ b.offset → a ≡ b
-same_source a b e f = ap₂ (λ (c o : ℕ). record { channel = c; offset = o }) e f
-
-one_moved : (n : ℕ) (x y z : SourceByte) → is_moved n x y ≡ true → is_moved n x z ≡ true → y ≡ z
-one_moved n x y z e f =
-    let c : y.channel ≡ z.channel = grind (arith, nat_tests) in
-    let o : y.offset ≡ z.offset = grind (arith, nat_tests) in
-    same_source y z c o
-
-both : (a b : Bool) → a && b ≡ true → (a ≡ true) × (b ≡ true)
-both true true e = (refl, refl)
-both true false e = absurd cc
-both false b e = absurd cc
-
-all_moved : (n : ℕ) (xs ys zs : List SourceByte) → length xs ≡ length ys → length xs ≡ length zs → each_moved n xs ys ≡ true → each_moved n xs zs ≡ true → ys ≡ zs
-all_moved n [] [] [] l k e f = refl
-all_moved n [] [] (z ∷ zs) l k e f = absurd (omega arith)
-all_moved n [] (y ∷ ys) zs l k e f = absurd (omega arith)
-all_moved n (x ∷ xs) [] zs l k e f = absurd (omega arith)
-all_moved n (x ∷ xs) (y ∷ ys) [] l k e f = absurd (omega arith)
-all_moved n (x ∷ xs) (y ∷ ys) (z ∷ zs) l k e f =
-    let p = both (is_moved n x y) (each_moved n xs ys) e in
-    let q = both (is_moved n x z) (each_moved n xs zs) f in
-    ap₂ (λ (w : SourceByte) (ws : List SourceByte). w ∷ ws) (one_moved n x y z p.0 q.0) (all_moved n xs ys zs (omega arith) (omega arith) p.1 q.1)
-
 moved_once : (n : ℕ) (xs ys zs : List SourceByte) → are_moved n xs ys ≡ true → are_moved n xs zs ≡ true → ys ≡ zs
-moved_once n xs ys zs e f =
-    let p = both (length xs == length ys) (each_moved n xs ys) e in
-    let q = both (length xs == length zs) (each_moved n xs zs) f in
-    let l : length xs ≡ length ys = grind (arith, nat_tests, p.0) in
-    let k : length xs ≡ length zs = grind (arith, nat_tests, q.0) in
-    all_moved n xs ys zs l k p.1 q.1
-
-same_sink : (a b : SinkByte) → a.channel ≡ b.channel → a.offset ≡ b.offset → a ≡ b
-same_sink a b e f = ap₂ (λ (c o : ℕ). record { channel = c; offset = o }) e f
+moved_once n xs ys zs e f = moved_is n xs ys e ∙ sym (moved_is n xs zs f)
 
 next_address : (l a b : Loc) → is_next_address l a ≡ true → is_next_address l b ≡ true → a ≡ b
 next_address (Mem p) (Mem a) (Mem b) e f = let s : a ≡ b = grind (arith, nat_tests) in ap (λ (x : ℕ). Mem x) s
-next_address (Mem p) (Mem a) (Reg r i) e f = absurd cc
-next_address (Mem p) (Reg r i) b e f = absurd cc
-next_address (Reg r i) (Mem a) b e f = absurd cc
-next_address (Reg r i) (Reg s j) b e f = absurd cc
+next_address l a b e f = absurd cc
 
 next_sink : (p q r : SinkPoint) → is_next p q ≡ true → is_next p r ≡ true → q ≡ r
 next_sink (Out a) (Out b) (Out c) e f =
     let x : b.channel ≡ c.channel = grind (arith, nat_tests) in
     let y : b.offset ≡ c.offset = grind (arith, nat_tests) in
-    ap (λ (z : SinkByte). Out z) (same_sink b c x y)
-next_sink (Out a) (Out b) (At q) e f = absurd cc
-next_sink (Out a) (At q) r e f = absurd cc
-next_sink (At p) (Out b) r e f = absurd cc
-next_sink (At p) (At q) (Out b) e f = absurd cc
+    ap₂ (λ (c o : ℕ). Out (record { channel = c; offset = o })) x y
 next_sink (At p) (At q) (At r) e f =
-    let x = both (p.time == q.time) (is_next_address p.loc q.loc) e in
-    let y = both (p.time == r.time) (is_next_address p.loc r.loc) f in
+    let x = and_parts (p.time == q.time) (is_next_address p.loc q.loc) e in
+    let y = and_parts (p.time == r.time) (is_next_address p.loc r.loc) f in
     let t : q.time ≡ r.time = grind (arith, nat_tests, x.0, y.0) in
     ap (λ (z : InnerSink). At z) (ap₂ (λ (l : Loc) (s : ℕ). record { time = s; loc = l }) (next_address p.loc q.loc r.loc x.1 y.1) t)
+next_sink p q r e f = absurd cc
 
 row_once : (n : ℕ) (before r s : Row) → goes_on n before r ≡ true → goes_on n before s ≡ true → r ≡ s
 row_once n before r s e f =
-    let p = both (is_next before.sink r.sink) (are_moved n before.sources r.sources) e in
-    let q = both (is_next before.sink s.sink) (are_moved n before.sources s.sources) f in
+    let p = and_parts (is_next before.sink r.sink) (are_moved n before.sources r.sources) e in
+    let q = and_parts (is_next before.sink s.sink) (are_moved n before.sources s.sources) f in
     ap₂ (λ (k : SinkPoint) (xs : List SourceByte). record { sink = k; sources = xs })
     (next_sink before.sink r.sink s.sink p.0 q.0) (moved_once n before.sources r.sources s.sources p.1 q.1)
 
@@ -158,15 +120,12 @@ same_row before r s u v hr hs e = by (standing before r) (standing before s)
     from : (n : ℕ) (a b : Row) → before ≡ Some a → before ≡ Some b → goes_on n a r ≡ true → goes_on n b s ≡ true → r ≡ s
     from n a b f g p q = row_once n a r s p (ap (λ (x : Row). goes_on n x s) (some_once a b before f g) ∙ q)
 
-    apart : (j k : ℕ) (xs ys : List ℕ) → j ∷ xs ≡ k ∷ ys → j ≡ k
-    apart j k xs ys f = cc
-
     by : Standing before r → Standing before s → (r ≡ s) × (u ≡ v)
     by (alike a f p x) (alike b g q y) = (from 0 a b f g p q, same-tails 0x3d 0x3d u v (put (0x3d ∷ []) (0x3d ∷ []) x y))
     by (onward a f p x) (onward b g q y) = (from 1 a b f g p q, same-tails 0x2b 0x2b u v (put (0x2b ∷ []) (0x2b ∷ []) x y))
     by (whole x) (whole y) = same_whole r s u v hr hs (put (whole_row r) (whole_row s) x y)
-    by (alike a f p x) (onward b g q y) = absurd (let z = apart 0x3d 0x2b u v (put (0x3d ∷ []) (0x2b ∷ []) x y) in omega (arith, z))
-    by (onward a f p x) (alike b g q y) = absurd (let z = apart 0x2b 0x3d u v (put (0x2b ∷ []) (0x3d ∷ []) x y) in omega (arith, z))
+    by (alike a f p x) (onward b g q y) = absurd (let z = same-heads 0x3d 0x2b u v (put (0x3d ∷ []) (0x2b ∷ []) x y) in omega (arith, z))
+    by (onward a f p x) (alike b g q y) = absurd (let z = same-heads 0x2b 0x3d u v (put (0x2b ∷ []) (0x3d ∷ []) x y) in omega (arith, z))
     by (alike a f p x) (whole y) = absurd (no_whole s v 0x3d u hs (omega arith) (λ z. omega (arith, z)) (λ z. omega (arith, z)) (sym (put (0x3d ∷ []) (whole_row s) x y)))
     by (onward a f p x) (whole y) = absurd (no_whole s v 0x2b u hs (omega arith) (λ z. omega (arith, z)) (λ z. omega (arith, z)) (sym (put (0x2b ∷ []) (whole_row s) x y)))
     by (whole x) (alike b g q y) = absurd (no_whole r u 0x3d v hr (omega arith) (λ z. omega (arith, z)) (λ z. omega (arith, z)) (put (whole_row r) (0x3d ∷ []) x y))
@@ -176,12 +135,9 @@ same_row before r s u v hr hs e = by (standing before r) (standing before s)
 no_row : (before : Option Row) (r : Row) (u w : List ℕ) → IsSmallRow r → row_after before r ++ u ≡ 0x70 ∷ w → ⊥
 no_row before r u w h e = by (standing before r)
   where
-    apart : (j k : ℕ) (xs ys : List ℕ) → j ∷ xs ≡ k ∷ ys → j ≡ k
-    apart j k xs ys f = cc
-
     by : Standing before r → ⊥
-    by (alike a f p x) = let z = apart 0x3d 0x70 u w (ap (λ (y : List ℕ). y ++ u) (sym x) ∙ e) in omega (arith, z)
-    by (onward a f p x) = let z = apart 0x2b 0x70 u w (ap (λ (y : List ℕ). y ++ u) (sym x) ∙ e) in omega (arith, z)
+    by (alike a f p x) = let z = same-heads 0x3d 0x70 u w (ap (λ (y : List ℕ). y ++ u) (sym x) ∙ e) in omega (arith, z)
+    by (onward a f p x) = let z = same-heads 0x2b 0x70 u w (ap (λ (y : List ℕ). y ++ u) (sym x) ∙ e) in omega (arith, z)
     by (whole x) = no_whole r u 0x70 w h (omega arith) (λ z. omega (arith, z)) (λ z. omega (arith, z)) (ap (λ (y : List ℕ). y ++ u) (sym x) ∙ e)
 
 same_rows : (before : Option Row) (rs ss : List Row) (u v : List ℕ) → AllByRecursion IsSmallRow rs → AllByRecursion IsSmallRow ss

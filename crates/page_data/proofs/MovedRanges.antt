@@ -28,7 +28,7 @@ each_is n (x ∷ xs) (y ∷ ys) e h =
     (ap₂ byte_on (sym (eqb-true x.channel y.channel own.0)) (sym (eqb-true (x.offset + n) y.offset own.1)))
     (each_is n xs ys (omega (arith, e)) parts.1)
 
-moved_is : (n : ℕ) (xs ys : List SourceByte) → are_moved n xs ys ≡ true → ys ≡ map (byte_moved n) xs
+pub moved_is : (n : ℕ) (xs ys : List SourceByte) → are_moved n xs ys ≡ true → ys ≡ map (byte_moved n) xs
 moved_is n xs ys h =
     let parts = and_parts (length xs == length ys) (each_moved n xs ys) h in
     each_is n xs ys (eqb-true (length xs) (length ys) parts.0) parts.1

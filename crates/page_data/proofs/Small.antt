@@ -6,10 +6,10 @@ use Rattle.std.proofs.lemmas.Bool.{ltb-true, eqb-true}
 use Rattle.std.proofs.lemmas.List.Elements.{All-nil, All-cons, All-append, All-map, All-weaker, All-filter, filter_passes, recursion_from_All}
 use Rattle.isa.specs.declared.CallKind.{CallKind}
 use Rattle.isa.specs.declared.CallKind.TheVariants as kind
-use Rattle.isa.specs.Machine.{State, Outcome, Retired, Called, Trapped, next, Fetch, Fetched, OutsideWindow, Illegal, fetch}
+use Rattle.isa.specs.Machine.{State, Outcome, Retired, Called, Trapped, next, Fetch, Fetched, fetch}
 use Rattle.isa.specs.Calls.{channel_of}
 use Rattle.log_model.specs.declared.CallRecord.{CallRecord}
-use Rattle.log_model.specs.declared.CallRecord.TheVariants.{Read, Write, Clock, Other}
+use Rattle.log_model.specs.declared.CallRecord.TheVariants.{Read, Write}
 use Rattle.log_model.specs.Logs.{Log, IsLog, IsRecord, Rise, least_after, at_of, steps}
 use Rattle.log_model.specs.Moved.{received_of, written_of, is_on, received_by, received, written_by, written}
 use Rattle.log_model.proofs.Ends.{end_at-small}
@@ -26,6 +26,7 @@ use Rattle.flow_model.specs.Origins.{Policy, byte_at, step_at, origins}
 use Rattle.flow_model.specs.OriginLaws.{WasRead}
 use Rattle.flow_model.proofs.OriginsRead.{origins_were_read}
 use Rattle.lists.proofs.Algebra.{All-set_of}
+use Rattle.lists.proofs.Lists.{all-append}
 use Rattle.replay_model.specs.Run.{Moment, start, advance, after_outcome, after_call, transfer, call_seen, plain_step, step_by, step_of, steps_from, trace}
 use Rattle.replay_model.proofs.Offsets.{length-steps_from, steps_within}
 use Rattle.replay_model.proofs.Sizes.{received_of_below, written_of_below, moved_below_each}
@@ -64,7 +65,6 @@ transfer_small k args before n c h = record { channel = c; offsets = by (n == 0)
 
 -- of a call with few calls before it
 call_small : (m : Moment) (left : List CallRecord) → AllByRecursion IsRecord m.done → AllByRecursion IsRecord left → length m.done ≤ 2 ^ 40 → IsSmallCall (call_seen m left)
-call_small m [] done forms few = record { channel = omega arith; offsets = omega arith }
 call_small m (Read at args result bytes ∷ rs) done forms few =
     let form = forms.0.1 in
     let before = moved_below_each (received_by (channel_of args)) (received_below (channel_of args)) m.done done in
@@ -75,8 +75,7 @@ call_small m (Write at args result bytes ∷ rs) done forms few =
     let before = moved_below_each (written_by (channel_of args)) (written_below (channel_of args)) m.done done in
     let own = written_of_below (Write at args result bytes) forms.0 in
     transfer_small kind.Write args (written (channel_of args) m.done) (length bytes) (first_word args form.three form.words) (omega (arith, before, own, few))
-call_small m (Clock at value ∷ rs) done forms few = record { channel = omega arith; offsets = omega arith }
-call_small m (Other at number ∷ rs) done forms few = record { channel = omega arith; offsets = omega arith }
+call_small m left done forms few = record { channel = omega arith; offsets = omega arith }
 
 -- ---- the steps of a run
 
@@ -93,14 +92,10 @@ record IsWithin (m : Moment) : Type 0 where
   left : AllByRecursion IsRecord m.left
   few : length m.done + length m.left ≤ 2 ^ 40
 
-with_last : (rs : List CallRecord) (r : CallRecord) → AllByRecursion IsRecord rs → IsRecord r → AllByRecursion IsRecord (rs ++ r ∷ [])
-with_last [] r forms form = (form, tt)
-with_last (q ∷ rs) r forms form = (forms.0, with_last rs r forms.1 form)
-
 after_call_within : (t : ℕ) (s : State) (done left : List CallRecord) → IsWithin (moment t s done left) → IsWithin (after_call (moment t s done left) left)
 after_call_within t s done [] w = record { done = w.done; left = w.left; few = w.few }
 after_call_within t s done (r ∷ rs) w = record {
-  done = with_last done r w.done w.left.0;
+  done = all-append IsRecord done (r ∷ []) w.done (w.left.0, tt);
   left = w.left.1;
   few = omega (arith, w.few, length-append done (r ∷ []));
 }
@@ -118,8 +113,7 @@ step_small m w = by (next m.state)
   where
     plain : (f : Fetch) → HasSmallCall (plain_step m.time m.state f)
     plain (Fetched i) = tt
-    plain OutsideWindow = tt
-    plain Illegal = tt
+    plain f = tt
 
     by : (o : Outcome) → HasSmallCall (step_by m o)
     by (Retired s) = plain (fetch m.state)
@@ -154,10 +148,7 @@ byte_small call (Mem p) c e = by call.kind e
   where
     by : (k : CallKind) → is_received_by k call p ≡ true → IsSmallSource (byte_at call (Mem p))
     by kind.Read f = let near = ltb-true (distance call.place p) call.length f in (omega (arith, c.channel), omega (arith, c.offsets, near))
-    by kind.Write f = absurd cc
-    by kind.Clock f = absurd cc
-    by kind.Other f = absurd cc
-    by kind.Exit f = absurd cc
+    by k f = absurd cc
 
 source_small : (policy : Policy) (ss : List StepSeen) (t : ℕ) → AllByRecursion HasSmallCall ss → (b : SourceByte) → WasRead policy ss t b → IsSmallSource b
 source_small policy ss t small b w =
@@ -198,10 +189,7 @@ written_small t (Some call) h = by call.kind
   where
     by : (k : CallKind) → All HasSmallName (sinks_of_call t call k)
     by kind.Write = bytes_small t call 0 call.length h (omega arith)
-    by kind.Read = All-nil HasSmallName
-    by kind.Clock = All-nil HasSmallName
-    by kind.Other = All-nil HasSmallName
-    by kind.Exit = All-nil HasSmallName
+    by k = All-nil HasSmallName
 
 sinks_small : (q : Query) (t : ℕ) (ss : List StepSeen) → AreLocated q.points → t + length ss < 2 ^ 72 → AllByRecursion HasSmallCall ss → All HasSmallName (sinks_from q t ss)
 sinks_small q t [] located h small = points_small q t located (omega (arith, h))

@@ -113,12 +113,6 @@ same_ranges (r ∷ rs) (q ∷ ss) s t hr hs e =
 
 -- ---- names
 
-same_byte : (a b : SinkByte) → a.channel ≡ b.channel → a.offset ≡ b.offset → a ≡ b
-same_byte a b e f = ap₂ (λ (c o : ℕ). record { channel = c; offset = o }) e f
-
-same_inner : (p q : InnerSink) → p.loc ≡ q.loc → p.time ≡ q.time → p ≡ q
-same_inner p q e f = ap₂ (λ (l : Loc) (t : ℕ). record { time = t; loc = l }) e f
-
 wide : (n : ℕ) → n < 2 ^ 72 → n < 10 ^ 64
 wide n h = omega arith
 
@@ -156,28 +150,27 @@ point_begins (Out b) u k w h hk r m e =
     number_begins b.channel (0x3a ∷ (decimal b.offset ++ u)) k w (wide b.channel h.0) hk (sym (joined (decimal b.channel) (decimal b.offset) u 0x3a) ∙ e)
 point_begins (At p) u k w h hk r m e = loc_begins p.loc (0x40 ∷ (decimal p.time ++ u)) k w r m (sym (at_text p u) ∙ e)
 
+-- a location begins no name of an output byte
+no_name : (l : Loc) (u : List ℕ) (b : SinkByte) (v : List ℕ) → IsSmallSink (Out b) → loc_text l ++ u ≡ point_text (Out b) ++ v → ⊥
+no_name l u b v h f = by l f
+  where
+    begins : (k : ℕ) (w : List ℕ) → 10 ≤ digit_value k → k ∷ w ≡ point_text (Out b) ++ v → ⊥
+    begins k w hk f = number_begins b.channel (0x3a ∷ (decimal b.offset ++ v)) k w (wide b.channel h.0) hk (sym (joined (decimal b.channel) (decimal b.offset) v 0x3a) ∙ sym f)
+
+    by : (l : Loc) → loc_text l ++ u ≡ point_text (Out b) ++ v → ⊥
+    by (Reg r i) f = begins 0x72 _ (omega arith) f
+    by (Mem p) f = begins 0x6d _ (omega arith) f
+
 -- a name, and what follows it
 pub same_point : (p q : SinkPoint) (u v : List ℕ) → IsSmallSink p → IsSmallSink q → Stopped u → Stopped v → point_text p ++ u ≡ point_text q ++ v → (p ≡ q) × (u ≡ v)
 same_point (Out a) (Out b) u v hp hq su sv e =
     let w = same_two 0x3a a.channel a.offset b.channel b.offset u v (omega arith) (wide a.channel hp.0) (wide a.offset hp.1) (wide b.channel hq.0) (wide b.offset hq.1) su sv e in
-    (ap (λ (x : SinkByte). Out x) (same_byte a b w.0 w.1), w.2)
-same_point (Out a) (At q) u v hp hq su sv e = absurd (apart a q u v hp (e ∙ at_text q v))
-  where
-    apart : (a : SinkByte) (q : InnerSink) (u v : List ℕ) → IsSmallSink (Out a) → point_text (Out a) ++ u ≡ loc_text q.loc ++ 0x40 ∷ (decimal q.time ++ v) → ⊥
-    apart a q u v h e = by q.loc e
-      where
-        by : (l : Loc) → point_text (Out a) ++ u ≡ loc_text l ++ 0x40 ∷ (decimal q.time ++ v) → ⊥
-        by (Reg r i) f = number_begins a.channel (0x3a ∷ (decimal a.offset ++ u)) 0x72 _ (wide a.channel h.0) (omega arith) (sym (joined (decimal a.channel) (decimal a.offset) u 0x3a) ∙ f)
-        by (Mem p) f = number_begins a.channel (0x3a ∷ (decimal a.offset ++ u)) 0x6d _ (wide a.channel h.0) (omega arith) (sym (joined (decimal a.channel) (decimal a.offset) u 0x3a) ∙ f)
-same_point (At p) (Out b) u v hp hq su sv e =
-    absurd (loc_begins_no_number p.loc (0x40 ∷ (decimal p.time ++ u)) b v hq (sym (at_text p u) ∙ e))
-  where
-    loc_begins_no_number : (l : Loc) (u : List ℕ) (b : SinkByte) (v : List ℕ) → IsSmallSink (Out b) → loc_text l ++ u ≡ point_text (Out b) ++ v → ⊥
-    loc_begins_no_number (Reg r i) u b v h f = number_begins b.channel (0x3a ∷ (decimal b.offset ++ v)) 0x72 _ (wide b.channel h.0) (omega arith) (sym (joined (decimal b.channel) (decimal b.offset) v 0x3a) ∙ sym f)
-    loc_begins_no_number (Mem p) u b v h f = number_begins b.channel (0x3a ∷ (decimal b.offset ++ v)) 0x6d _ (wide b.channel h.0) (omega arith) (sym (joined (decimal b.channel) (decimal b.offset) v 0x3a) ∙ sym f)
+    (ap₂ (λ (c o : ℕ). Out (record { channel = c; offset = o })) w.0 w.1, w.2)
+same_point (Out a) (At q) u v hp hq su sv e = absurd (no_name q.loc (0x40 ∷ (decimal q.time ++ v)) a u hp (sym (e ∙ at_text q v)))
+same_point (At p) (Out b) u v hp hq su sv e = absurd (no_name p.loc (0x40 ∷ (decimal p.time ++ u)) b v hq (sym (at_text p u) ∙ e))
 same_point (At p) (At q) u v hp hq su sv e =
     let a = decimal p.time ++ u in
     let b = decimal q.time ++ v in
     let w = same_loc p.loc q.loc (0x40 ∷ a) (0x40 ∷ b) hp.0 hq.0 (stopped 0x40 a (omega arith)) (stopped 0x40 b (omega arith)) (sym (at_text p u) ∙ e ∙ at_text q v) in
     let t = same_number p.time q.time u v (wide p.time hp.1) (wide q.time hq.1) su sv (same-tails 0x40 0x40 a b w.1) in
-    (ap (λ (x : InnerSink). At x) (same_inner p q w.0 t.0), t.1)
+    (ap₂ (λ (l : Loc) (t : ℕ). At (record { time = t; loc = l })) w.0 t.0, t.1)
