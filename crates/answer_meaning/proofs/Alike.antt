@@ -29,8 +29,7 @@ use Rattle.flow_model.specs.declared.Rule.TheVariants.{Index}
 use Rattle.flow_model.specs.Flow.{lanes, all_lanes}
 use Rattle.record_model.specs.States.{IsSound}
 use Rattle.answer_meaning.specs.Content.{content, byte_in, AgreeAt}
-use Rattle.answer_meaning.proofs.Lanes.{byte_of_window}
-use Rattle.answer_meaning.proofs.Targets.{word_agrees, words_agree, address_agrees}
+use Rattle.answer_meaning.proofs.Targets.{byte_of_window, word_agrees, words_agree, address_agrees}
 use Rattle.decision_find.specs.Decides.{base_of_load, used, asked, decides}
 use Rattle.decision_find.specs.Decisions.{fetched_from, instr_of, decides_fetched, decisions}
 use Rattle.lists.proofs.Numbers.{three-get_or}

@@ -1,4 +1,3 @@
-mod Lanes
 mod Targets
 mod Table
 mod Flows
@@ -9,5 +8,4 @@ mod Ranges
 mod Paths
 mod Alike
 mod Together
-mod Recordings
 mod Worked

@@ -67,19 +67,9 @@ abbrev is_of : ℕ → Loc → Bool
 is_of q (Reg r i) = r == q
 is_of q (Mem p) = false
 
--- the targets with origins in a lane above their own, in a lane of x1 below, in another lane
-abbrev above : Instr → List (Loc × Loc)
-above i = filter (λ p. nat_lt (lane_number p.0) (lane_number p.1)) (listed i)
-
-abbrev below : Instr → List (Loc × Loc)
-below i = filter (λ p. is_of 1 p.1 && nat_lt (lane_number p.1) (lane_number p.0)) (listed i)
-
-abbrev elsewhere : Instr → List (Loc × Loc)
-elsewhere i = filter (λ p. not (lane_number p.0 == lane_number p.1)) (listed i)
-
--- an origin that has no sign
-abbrev unsigned_lanes : Instr → List (Loc × Loc)
-unsigned_lanes i = filter (λ p. nat_lt (lane_number p.1) 3) (listed i)
+-- those of which a test is true
+abbrev such : (Loc → Loc → Bool) → Instr → List (Loc × Loc)
+such test i = filter (λ p. test p.0 p.1) (listed i)
 
 -- ---- what was found
 
@@ -105,21 +95,21 @@ all_matter = refl
 abbrev from_below : List Instr
 from_below = Addi 3 1 (pos 1) ∷ Addi 3 1 (negsuc 0) ∷ Add 3 1 2 ∷ Sub 3 1 2 ∷ Sub 3 0 2 ∷ Mul 3 1 2 ∷ Sll 3 1 2 ∷ []
 
-none_above : map idle from_below ≡ map above from_below
+none_above : map idle from_below ≡ map (such (λ target origin. nat_lt (lane_number target) (lane_number origin))) from_below
 none_above = refl
 
 -- a shift to the right and an unsigned quotient have none from lanes below
 abbrev from_above : List Instr
 from_above = Srl 3 1 2 ∷ Sra 3 1 2 ∷ Divu 3 1 2 ∷ []
 
-none_below : map idle from_above ≡ map below from_above
+none_below : map idle from_above ≡ map (such (λ target origin. is_of 1 origin && nat_lt (lane_number origin) (lane_number target))) from_above
 none_below = refl
 
 -- with x0 some are moves
 abbrev moves : List Instr
 moves = Sub 3 1 0 ∷ Sll 3 1 0 ∷ Srl 3 1 0 ∷ Sra 3 1 0 ∷ Rem 3 1 0 ∷ Remu 3 1 0 ∷ []
 
-none_elsewhere : map idle moves ≡ map elsewhere moves
+none_elsewhere : map idle moves ≡ map (such (λ target origin. not (lane_number target == lane_number origin))) moves
 none_elsewhere = refl
 
 -- and some have one result whatever the other operand is; so have some whose operands are one register
@@ -137,17 +127,14 @@ none_at_all = refl
 abbrev signs : List Instr
 signs = Slt 3 1 0 ∷ Slti 3 1 (pos 0) ∷ []
 
-sign_alone : map idle signs ≡ map unsigned_lanes signs
+sign_alone : map idle signs ≡ map (such (λ target origin. nat_lt (lane_number origin) 3)) signs
 sign_alone = refl
 
 -- a comparison with a multiple of 256 doesn't look at the lowest lane
 abbrev coarse : List Instr
 coarse = Slti 3 1 (pos 256) ∷ Slti 3 1 (negsuc 255) ∷ Sltiu 3 1 (pos 256) ∷ Sltiu 3 1 (negsuc 255) ∷ []
 
-abbrev lowest_lanes : Instr → List (Loc × Loc)
-lowest_lanes i = filter (λ p. lane_number p.1 == 0) (listed i)
-
-lowest_unseen : map idle coarse ≡ map lowest_lanes coarse
+lowest_unseen : map idle coarse ≡ map (such (λ target origin. lane_number origin == 0)) coarse
 lowest_unseen = refl
 
 -- ANDI keeps no lane where the immediate's is 0, ORI none where it is 255
@@ -181,12 +168,9 @@ to_right k target origin = overlap (8 * lane_number target + k) (8 * lane_number
 abbrev to_right_signed : ℕ → Loc → Loc → Bool
 to_right_signed k target origin = to_right k target origin || (nat_lt 2 (lane_number origin) && nat_le 24 (8 * lane_number target + k))
 
-abbrev unmoved : (Loc → Loc → Bool) → Instr → List (Loc × Loc)
-unmoved comes i = filter (λ p. not (comes p.0 p.1)) (listed i)
-
-shifts_by_bits : (map (λ k. idle (Slli 3 1 k)) (range_with_len 0 32) ≡ map (λ k. unmoved (to_left k) (Slli 3 1 k)) (range_with_len 0 32))
-    × (map (λ k. idle (Srli 3 1 k)) (range_with_len 0 32) ≡ map (λ k. unmoved (to_right k) (Srli 3 1 k)) (range_with_len 0 32))
-    × (map (λ k. idle (Srai 3 1 k)) (range_with_len 0 32) ≡ map (λ k. unmoved (to_right_signed k) (Srai 3 1 k)) (range_with_len 0 32))
+shifts_by_bits : (map (λ k. idle (Slli 3 1 k)) (range_with_len 0 32) ≡ map (λ k. such (λ t o. not (to_left k t o)) (Slli 3 1 k)) (range_with_len 0 32))
+    × (map (λ k. idle (Srli 3 1 k)) (range_with_len 0 32) ≡ map (λ k. such (λ t o. not (to_right k t o)) (Srli 3 1 k)) (range_with_len 0 32))
+    × (map (λ k. idle (Srai 3 1 k)) (range_with_len 0 32) ≡ map (λ k. such (λ t o. not (to_right_signed k t o)) (Srai 3 1 k)) (range_with_len 0 32))
 shifts_by_bits = (refl, refl, refl)
 
 -- ---- what matters is listed

@@ -38,14 +38,13 @@ use Rattle.report_model.specs.Rows.{sink_at, Sink, sinks_of_call, sinks_of_step,
 use Rattle.replay_model.proofs.Transfers.{write_held}
 use Rattle.answer_meaning.specs.Content.{content, AgreeAt}
 use Rattle.record_model.proofs.Sound.{bytes_length}
-use Rattle.answer_meaning.proofs.Lanes.{byte_of_window, byte_beyond}
 use Rattle.std.specs.List.{AllByRecursion, filter, All, range_with_len}
 use Rattle.std.proofs.lemmas.List.Elements.{recursion_from_All, All-from_recursion, All-weaker}
 use Rattle.lists.proofs.Lists.{all-append, all-filter, all-map, all-weaken}
 use Rattle.flow_model.specs.declared.Rule.{Rule}
 use Rattle.flow_model.specs.Ranges.{IsLocation}
 use Rattle.answer_meaning.proofs.Flows.{IsPlace, AtMostOne, Nothing, One, single_place}
-use Rattle.answer_meaning.proofs.Targets.{union_over-all}
+use Rattle.answer_meaning.proofs.Targets.{byte_of_window, byte_beyond, union_over-all}
 use Rattle.isa.specs.declared.CallKind.{CallKind}
 use Rattle.lists.proofs.Algebra.{All-set_of}
 use Rattle.flow_model.specs.declared.InnerSink.{InnerSink}

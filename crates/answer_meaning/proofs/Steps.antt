@@ -21,8 +21,7 @@ use Rattle.answer_meaning.specs.Content.{content, lane_of, byte_in, AgreeAt}
 use Rattle.answer_meaning.specs.StepLaws.{IsAnswered, words_given, IsDoneBy, IsDone, answer_by, bytes_given, receives_by, receives, is_load, on_path, SameStep, StaysSound, OnlyMoves, ByCopy, ByKeep, MovesKeepContent, DeterminedBy, IsReceivedThere, ReceivedIsThere}
 use Rattle.record_model.proofs.Values.{fetched_in_range}
 use Rattle.record_model.proofs.Sound.{set_in, sound_pc, Leaves, leaves_is, stays_sound, call_sound, read_room, Executes, HasRoom, retires}
-use Rattle.answer_meaning.proofs.Lanes.{put_in, put_out}
-use Rattle.answer_meaning.proofs.Targets.{Carries, carry, kept, to_lanes, to_set, same_value, agrees_on, IsMoved, base_agrees, no_location}
+use Rattle.answer_meaning.proofs.Targets.{put_in, put_out, Carries, carry, kept, to_lanes, to_set, same_value, agrees_on, IsMoved, base_agrees, no_location}
 use Rattle.lists.proofs.Tests.{true-false}
 use Rattle.isa.specs.declared.Instr.{Instr}
 use Rattle.isa.specs.declared.Instr.TheVariants.{Ecall}

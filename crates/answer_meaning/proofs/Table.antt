@@ -14,9 +14,8 @@ use Rattle.flow_model.specs.Flow.{flow, origins_by, to_register, to_memory, noth
 use Rattle.record_model.specs.States.{IsSound}
 use Rattle.answer_meaning.specs.Content.{content, lane_of, AgreeAt}
 use Rattle.answer_meaning.specs.StepLaws.{is_load}
-use Rattle.answer_meaning.proofs.Lanes.{xor_lane, or_lane, and_lane, and_all, lane_down, lane_down_signed, Short, ShortOne, ShortTwo}
 use Rattle.record_model.proofs.Sound.{low_length, Size, OneByte, TwoBytes, FourBytes, Leaves, on_landed, on_branched, on_loaded, on_stored}
-use Rattle.answer_meaning.proofs.Targets.{AgreesOn, agrees_on, Carries, carry, kept, to_set, to_put, left_moved, right_moved, same_value, moves, of_one, of_two, of_shift, of_bytes, of_immediate, of_shift_by, of_test, of_tests, of_move, of_load, of_signed_load, of_store, word_agrees, lane_agrees, amount_agrees}
+use Rattle.answer_meaning.proofs.Targets.{xor_lane, or_lane, and_lane, and_all, lane_down, lane_down_signed, Short, ShortOne, ShortTwo, AgreesOn, agrees_on, Carries, carry, kept, to_set, to_put, left_moved, right_moved, same_value, moves, of_one, of_two, of_shift, of_bytes, of_immediate, of_shift_by, of_test, of_tests, of_move, of_load, of_signed_load, of_store, word_agrees, lane_agrees, amount_agrees}
 use Rattle.std.specs.List.{flat_map, range_with_len}
 use Rattle.std.proofs.lemmas.Bool.{cases_eq}
 use Rattle.std.specs.Int.{int_shr}

@@ -42,8 +42,7 @@ use Rattle.sha2.specs.Sha256.{sha256, digest_bytes, hash_after, compress, rounds
 use Rattle.answer_meaning.proofs.Steps.{compute_determines}
 use Rattle.decision_find.specs.Text.{decided_by}
 use Rattle.answer_meaning.specs.Recordings.{AreSettingsAlike, AreAnswersAlike}
-use Rattle.answer_meaning.proofs.Together.{path_is_same, contents_are_same}
-use Rattle.answer_meaning.proofs.Recordings.{recordings_are_alike}
+use Rattle.answer_meaning.proofs.Together.{path_is_same, contents_are_same, recordings_are_alike}
 use Rattle.isa.specs.declared.CallKind.TheVariants as kind
 
 -- ---- guests that read a byte or two, and write one or two

@@ -37,17 +37,9 @@ illegal-summary digest = refl
 limit-line : (at : ℕ) → end_line (Limit at) ≡ codes "end limit\n"
 limit-line at = refl
 
-copy_four-output : (digest : List ℕ) → output 1 (copy_four digest) ≡ codes "ABCD"
-copy_four-output digest = refl
-
-copy_four-no_output : (digest : List ℕ) → output 0 (copy_four digest) ≡ []
-copy_four-no_output digest = refl
+copy_four-moved : (digest : List ℕ) → (output 1 (copy_four digest) ≡ codes "ABCD") × (output 0 (copy_four digest) ≡ [])
+    × (input 0 (copy_four digest) ≡ codes "ABCD") × (input 1 (copy_four digest) ≡ [])
+copy_four-moved digest = (refl, refl, refl, refl)
 
 illegal-no_output : (digest : List ℕ) → output 1 (illegal digest) ≡ []
 illegal-no_output digest = refl
-
-copy_four-input : (digest : List ℕ) → input 0 (copy_four digest) ≡ codes "ABCD"
-copy_four-input digest = refl
-
-copy_four-no_input : (digest : List ℕ) → input 1 (copy_four digest) ≡ []
-copy_four-no_input digest = refl

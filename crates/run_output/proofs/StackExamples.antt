@@ -14,63 +14,29 @@ use Rattle.run_output.specs.Stacks.{stacks_text}
 
 -- ---- hints
 
-call : hint_of (Jal 1 (pos 8)) ≡ Calls
-call = refl
+-- a call, by x1 and by x5; a jump; a return, by x1 and by x5
+direct : (hint_of (Jal 1 (pos 8)) ≡ Calls) × (hint_of (Jal 5 (pos 8)) ≡ Calls) × (hint_of (Jal 0 (negsuc 7)) ≡ Neither)
+    × (hint_of (Jalr 0 1 (pos 0)) ≡ Returns) × (hint_of (Jalr 6 5 (pos 0)) ≡ Returns)
+direct = (refl, refl, refl, refl, refl)
 
-call_by_x5 : hint_of (Jal 5 (pos 8)) ≡ Calls
-call_by_x5 = refl
-
-jump : hint_of (Jal 0 (negsuc 7)) ≡ Neither
-jump = refl
-
-return : hint_of (Jalr 0 1 (pos 0)) ≡ Returns
-return = refl
-
-return_by_x5 : hint_of (Jalr 6 5 (pos 0)) ≡ Returns
-return_by_x5 = refl
-
-indirect_call : hint_of (Jalr 1 6 (pos 0)) ≡ Calls
-indirect_call = refl
-
-indirect_jump : hint_of (Jalr 0 6 (pos 0)) ≡ Neither
-indirect_jump = refl
-
-change_over : hint_of (Jalr 1 5 (pos 0)) ≡ ReturnsAndCalls
-change_over = refl
-
-far_call : hint_of (Jalr 5 5 (pos 12)) ≡ Calls
-far_call = refl
-
-load_of_link : hint_of (Lw 1 2 (pos 0)) ≡ Neither
-load_of_link = refl
+-- a call and a jump by a register, a change over, a call far away, and a load of a link
+by_register : (hint_of (Jalr 1 6 (pos 0)) ≡ Calls) × (hint_of (Jalr 0 6 (pos 0)) ≡ Neither) × (hint_of (Jalr 1 5 (pos 0)) ≡ ReturnsAndCalls)
+    × (hint_of (Jalr 5 5 (pos 12)) ≡ Calls) × (hint_of (Lw 1 2 (pos 0)) ≡ Neither)
+by_register = (refl, refl, refl, refl, refl)
 
 -- ---- returns, from calls at 0x200 in 0x100 in 0x40
 
 abbrev three : List ℕ
 three = 0x200 ∷ 0x100 ∷ 0x40 ∷ []
 
-innermost_returns : after_return 0x204 three ≡ 0x100 ∷ 0x40 ∷ []
-innermost_returns = refl
+-- the innermost returns, or the outermost; where none is in progress; and to an address that is nobody's return address
+returns : (after_return 0x204 three ≡ 0x100 ∷ 0x40 ∷ []) × (after_return 0x44 three ≡ []) × (after_return 0x44 [] ≡ []) × (after_return 0x208 three ≡ 0x100 ∷ 0x40 ∷ [])
+returns = (refl, refl, refl, refl)
 
-outermost_returns : after_return 0x44 three ≡ []
-outermost_returns = refl
-
--- nobody's return address
-beyond : after_return 0x208 three ≡ 0x100 ∷ 0x40 ∷ []
-beyond = refl
-
-none_in_progress : after_return 0x44 [] ≡ []
-none_in_progress = refl
-
--- of two calls from one place the innermost ends
-twice : after_return 0x104 (0x200 ∷ 0x100 ∷ 0x100 ∷ []) ≡ 0x100 ∷ []
-twice = refl
-
-changed_over : after_hint ReturnsAndCalls 0x300 0x204 three ≡ 0x300 ∷ 0x100 ∷ 0x40 ∷ []
-changed_over = refl
-
-last_address : after_return 0 (0xfffffffc ∷ 0x40 ∷ []) ≡ 0x40 ∷ []
-last_address = refl
+-- of two calls from one place the innermost ends; a change over; and a call from the last address
+others : (after_return 0x104 (0x200 ∷ 0x100 ∷ 0x100 ∷ []) ≡ 0x100 ∷ []) × (after_hint ReturnsAndCalls 0x300 0x204 three ≡ 0x300 ∷ 0x100 ∷ 0x40 ∷ [])
+    × (after_return 0 (0xfffffffc ∷ 0x40 ∷ []) ≡ 0x40 ∷ [])
+others = (refl, refl, refl)
 
 -- ---- the text of several times
 
