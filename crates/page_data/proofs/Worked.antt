@@ -28,64 +28,37 @@ at t l sources = record { sink = At (record { time = t; loc = l }); sources = so
 
 -- ---- rows
 
-moved_bytes-text : joined_rows (out 1 0 (source 0 7 ∷ []) ∷ out 1 1 (source 0 8 ∷ []) ∷ out 1 2 (source 0 9 ∷ []) ∷ []) ≡ codes "1:0 0:7-8\n++"
+-- rows that go on: by moved bytes, by shared sources, by either; and without source bytes both say it
+going_on-text : (joined_rows (out 1 0 (source 0 7 ∷ []) ∷ out 1 1 (source 0 8 ∷ []) ∷ out 1 2 (source 0 9 ∷ []) ∷ []) ≡ codes "1:0 0:7-8\n++")
+    × (joined_rows (out 1 0 (source 0 3 ∷ source 0 4 ∷ source 2 4 ∷ []) ∷ out 1 1 (source 0 3 ∷ source 0 4 ∷ source 2 4 ∷ []) ∷ []) ≡ codes "1:0 0:3-5 2:4-5\n=")
+    × (joined_rows (out 1 0 (source 0 1 ∷ []) ∷ out 1 1 (source 0 1 ∷ []) ∷ out 1 2 (source 0 2 ∷ []) ∷ []) ≡ codes "1:0 0:1-2\n=+")
+    × (joined_rows (out 1 0 [] ∷ out 1 1 [] ∷ []) ≡ codes "1:0\n=")
 unfolding digits
-moved_bytes-text = refl
-
-shared_sources-text : joined_rows (out 1 0 (source 0 3 ∷ source 0 4 ∷ source 2 4 ∷ []) ∷ out 1 1 (source 0 3 ∷ source 0 4 ∷ source 2 4 ∷ []) ∷ []) ≡ codes "1:0 0:3-5 2:4-5\n="
-unfolding digits
-shared_sources-text = refl
-
-both_ways-text : joined_rows (out 1 0 (source 0 1 ∷ []) ∷ out 1 1 (source 0 1 ∷ []) ∷ out 1 2 (source 0 2 ∷ []) ∷ []) ≡ codes "1:0 0:1-2\n=+"
-unfolding digits
-both_ways-text = refl
-
--- without source bytes both say it
-no_sources-text : joined_rows (out 1 0 [] ∷ out 1 1 [] ∷ []) ≡ codes "1:0\n="
-unfolding digits
-no_sources-text = refl
+going_on-text = (refl, refl, refl, refl)
 
 -- a gap, another channel of output, fewer source bytes, another channel of input
-gap-text : joined_rows (out 1 0 (source 0 1 ∷ []) ∷ out 1 2 (source 0 2 ∷ []) ∷ []) ≡ codes "1:0 0:1-2\n1:2 0:2-3\n"
+apart-text : (joined_rows (out 1 0 (source 0 1 ∷ []) ∷ out 1 2 (source 0 2 ∷ []) ∷ []) ≡ codes "1:0 0:1-2\n1:2 0:2-3\n")
+    × (joined_rows (out 1 5 (source 0 1 ∷ []) ∷ out 2 6 (source 0 2 ∷ []) ∷ []) ≡ codes "1:5 0:1-2\n2:6 0:2-3\n")
+    × (joined_rows (out 1 0 (source 0 1 ∷ source 0 2 ∷ []) ∷ out 1 1 (source 0 2 ∷ []) ∷ []) ≡ codes "1:0 0:1-3\n1:1 0:2-3\n")
+    × (joined_rows (out 1 0 (source 0 1 ∷ []) ∷ out 1 1 (source 1 2 ∷ []) ∷ []) ≡ codes "1:0 0:1-2\n1:1 1:2-3\n")
 unfolding digits
-gap-text = refl
-
-other_channel-text : joined_rows (out 1 5 (source 0 1 ∷ []) ∷ out 2 6 (source 0 2 ∷ []) ∷ []) ≡ codes "1:5 0:1-2\n2:6 0:2-3\n"
-unfolding digits
-other_channel-text = refl
-
-fewer_sources-text : joined_rows (out 1 0 (source 0 1 ∷ source 0 2 ∷ []) ∷ out 1 1 (source 0 2 ∷ []) ∷ []) ≡ codes "1:0 0:1-3\n1:1 0:2-3\n"
-unfolding digits
-fewer_sources-text = refl
-
-other_input-text : joined_rows (out 1 0 (source 0 1 ∷ []) ∷ out 1 1 (source 1 2 ∷ []) ∷ []) ≡ codes "1:0 0:1-2\n1:1 1:2-3\n"
-unfolding digits
-other_input-text = refl
+apart-text = (refl, refl, refl, refl)
 
 -- addresses at one time go on, at another time they don't, nor do lanes
-addresses-text : joined_rows (at 3 (Mem 10) (source 0 1 ∷ []) ∷ at 3 (Mem 11) (source 0 2 ∷ []) ∷ at 4 (Mem 12) (source 0 3 ∷ []) ∷ []) ≡ codes "m:10@3 0:1-2\n+m:12@4 0:3-4\n"
+points-text : (joined_rows (at 3 (Mem 10) (source 0 1 ∷ []) ∷ at 3 (Mem 11) (source 0 2 ∷ []) ∷ at 4 (Mem 12) (source 0 3 ∷ []) ∷ []) ≡ codes "m:10@3 0:1-2\n+m:12@4 0:3-4\n")
+    × (joined_rows (at 3 (Reg 5 0) (source 0 1 ∷ []) ∷ at 3 (Reg 5 1) (source 0 2 ∷ []) ∷ []) ≡ codes "r:5.0@3 0:1-2\nr:5.1@3 0:2-3\n")
 unfolding digits
-addresses-text = refl
-
-lanes-text : joined_rows (at 3 (Reg 5 0) (source 0 1 ∷ []) ∷ at 3 (Reg 5 1) (source 0 2 ∷ []) ∷ []) ≡ codes "r:5.0@3 0:1-2\nr:5.1@3 0:2-3\n"
-unfolding digits
-lanes-text = refl
+points-text = (refl, refl)
 
 -- ---- calls
 
-read-text : call_line (Read 5 (0 ∷ 0x10100 ∷ 4 ∷ []) (pos 4) (codes "ABCD")) ≡ codes "r 0 4 5\n"
+-- a read and a write; a refused read, and the clock
+calls-text : (call_line (Read 5 (0 ∷ 0x10100 ∷ 4 ∷ []) (pos 4) (codes "ABCD")) ≡ codes "r 0 4 5\n")
+    × (call_line (Write 8 (1 ∷ 0x10100 ∷ 4 ∷ []) (pos 4) (codes "ABCD")) ≡ codes "w 1 4 8\n")
+    × (call_line (Read 5 (99 ∷ 0x10100 ∷ 4 ∷ []) (negsuc 8) []) ≡ [])
+    × (call_line (Clock 5 7) ≡ [])
 unfolding digits
-read-text = refl
-
-write-text : call_line (Write 8 (1 ∷ 0x10100 ∷ 4 ∷ []) (pos 4) (codes "ABCD")) ≡ codes "w 1 4 8\n"
-unfolding digits
-write-text = refl
-
-refused_read-text : call_line (Read 5 (99 ∷ 0x10100 ∷ 4 ∷ []) (negsuc 8) []) ≡ []
-refused_read-text = refl
-
-clock-text : call_line (Clock 5 7) ≡ []
-clock-text = refl
+calls-text = (refl, refl, refl, refl)
 
 -- ---- the data of a run that reads two bytes and writes them, its program's digest cut short
 
