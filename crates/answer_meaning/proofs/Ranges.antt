@@ -1,5 +1,5 @@
 -- The runs of a report: their bytes were moved, and what is copied isn't told as changed.
-use Rattle.std.proofs.Common.{◌≡◌, Bool, true, false, ◌&&◌, cond, ◌==◌, List, [], ◌∷◌, refl, sym, ap, ◌∙◌, eq-eqb, ℕ, zero, suc, ◌+◌, ◌-◌, ◌<◌, ◌≤◌, ◌++◌, map, length, subst, arith, pos}
+use Rattle.std.proofs.Common.{◌≡◌, Bool, true, false, ◌&&◌, cond, ◌==◌, List, [], ◌∷◌, refl, sym, ap, ◌∙◌, eq-eqb, ℕ, zero, suc, ◌+◌, ◌-◌, ◌<◌, ◌≤◌, map, length, subst, arith, pos}
 use Rattle.std.specs.Prelude.{if◌then◌else◌, ◌||◌, All, codes}
 use Rattle.std.specs.List.{flat_map, list_all, AllByRecursion, range_with_len}
 use Rattle.std.proofs.lemmas.Bool.{and_from, and_parts}

@@ -32,6 +32,7 @@ moved_once n xs ys zs e f = moved_is n xs ys e ∙ sym (moved_is n xs zs f)
 
 next_address : (l a b : Loc) → is_next_address l a ≡ true → is_next_address l b ≡ true → a ≡ b
 next_address (Mem p) (Mem a) (Mem b) e f = let s : a ≡ b = grind (arith, nat_tests) in ap (λ (x : ℕ). Mem x) s
+next_address (Reg r i) (Mem a) b e f = absurd cc
 next_address l a b e f = absurd cc
 
 next_sink : (p q r : SinkPoint) → is_next p q ≡ true → is_next p r ≡ true → q ≡ r
