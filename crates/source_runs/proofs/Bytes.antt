@@ -1,10 +1,11 @@
 -- The bytes of runs: their order, and which they are. Crates above cite these lemmas.
-use Rattle.std.proofs.Common.{◌≡◌, ℕ, zero, suc, ◌+◌, ◌-◌, ◌<◌, ◌≤◌, [], ◌∷◌, refl, ap, ap₂, sym, ◌∙◌, subst, Bool, true, false, ◌||◌, nat_lt, arith, ◌⊎◌, inl, inr, min, max}
+use Rattle.std.proofs.Common.{◌≡◌, ℕ, zero, suc, ◌+◌, ◌-◌, ◌<◌, ◌≤◌, [], ◌∷◌, refl, ap, ap₂, sym, ◌∙◌, subst, Bool, true, false, ◌&&◌, ◌||◌, nat_le, nat_lt, arith, ◌⊎◌, inl, inr, min, max}
 use Rattle.std.specs.Ordering.{eq_by_cmp, is_eq}
 use Rattle.std.specs.Cmp.{nat_cmp_is, tied_itself}
 use Rattle.std.specs.declared.cmp.Ordering.TheVariants.{Less, Equal}
 use Rattle.std.proofs.lemmas.Grind.{common_steps}
 use Rattle.std.proofs.lemmas.Bool.{or_left, or_right, or_cases}
+use Rattle.std.proofs.lemmas.Bool.Decides.{nat_tests}
 use Rattle.lists.specs.Sets.{union, has, IsBelow, Ascends}
 use Rattle.lists.proofs.Algebra.{Ascends-union, has-union, same_list, tied_by}
 use Rattle.lists.proofs.Tests.{true-false, same-tests}
@@ -12,7 +13,7 @@ use Rattle.flow_model.specs.declared.SourceByte.{SourceByte}
 use Rattle.flow_model.specs.Orders.{source_cmp}
 use Rattle.flow_model.proofs.Orders.{source_total, source_same, source_cmp-channel}
 use Rattle.source_runs.specs.declared.runs.SourceRun.{SourceRun}
-use Rattle.source_runs.specs.Runs.{byte_on, bytes_from, bytes_of}
+use Rattle.source_runs.specs.Runs.{byte_on, bytes_from, bytes_of, goes_on}
 
 pub lt_or : (i n : ℕ) → (i < n) ⊎ (n ≤ i)
 lt_or i n = by (nat_lt i n) refl where
@@ -110,42 +111,34 @@ have_both r s t q split left right =
     ])
     (λ h. elim (or_cases (has source_cmp q (bytes_of r)) (has source_cmp q (bytes_of s)) h) [ inl p ↦ run_has q t (left (of_run q r p)) | inr p ↦ run_has q t (right (of_run q s p)) ])
 
+-- the runs are of one channel, and overlap or touch
+abbrev pub touches : SourceRun → SourceRun → Bool
+touches r s = goes_on r s && (nat_le r.first s.first || nat_le r.first (s.last + 1))
+
 -- the run from where the first of both begins to where the last of them ends
 abbrev pub hull : SourceRun → SourceRun → SourceRun
 hull r s = record { channel = r.channel; first = min r.first s.first; last = max r.last s.last }
 
-hull_has : (r s : SourceRun) (q : SourceByte) → r.channel ≡ s.channel → s.first ≤ r.last + 1 → r.first ≤ s.last + 1
+pub hull_has : (r s : SourceRun) (q : SourceByte) → touches r s ≡ true
     → has source_cmp q (bytes_of (hull r s)) ≡ (has source_cmp q (bytes_of r) || has source_cmp q (bytes_of s))
-hull_has r s q same left right = have_both r s (hull r s) q split
+hull_has r s q e = have_both r s (hull r s) q split
     (λ i. record { channel = i.channel; first = omega (arith, i.first); last = omega (arith, i.last) })
     (λ i. record { channel = i.channel ∙ sym same; first = omega (arith, i.first); last = omega (arith, i.last) }) where
+      same : r.channel ≡ s.channel
+      same = grind (arith, nat_tests)
+
       split : IsOf q (hull r s) → IsOf q r ⊎ IsOf q s
       split i = elim (lt_or q.offset r.first) [
-        | inl p ↦ inr (record { channel = i.channel ∙ same; first = omega (arith, p, i.first); last = omega (arith, p, right) })
+        | inl p ↦ inr (record { channel = i.channel ∙ same; first = omega (arith, p, i.first); last = grind (arith, nat_tests) })
         | inr p ↦ elim (lt_or r.last q.offset) [
-          | inl k ↦ inr (record { channel = i.channel ∙ same; first = omega (arith, k, left); last = omega (arith, k, i.last) })
+          | inl k ↦ inr (record { channel = i.channel ∙ same; first = grind (arith, nat_tests); last = omega (arith, k, i.last) })
           | inr k ↦ inl (record { channel = i.channel; first = p; last = k })
         ]
       ]
 
 -- two runs that overlap or touch are one
-pub hull_is : (r s : SourceRun) → r.channel ≡ s.channel → s.first ≤ r.last + 1 → r.first ≤ s.last + 1 → bytes_of (hull r s) ≡ union source_cmp (bytes_of r) (bytes_of s)
-hull_is r s same left right =
+pub hull_is : (r s : SourceRun) → touches r s ≡ true → bytes_of (hull r s) ≡ union source_cmp (bytes_of r) (bytes_of s)
+hull_is r s e =
     same_list source_total source_same (bytes_of (hull r s)) (union source_cmp (bytes_of r) (bytes_of s)) (run_ascends (hull r s))
     (Ascends-union source_total (bytes_of r) (bytes_of s) (run_ascends s))
-    (λ q. hull_has r s q same left right ∙ sym (has-union source_total (bytes_of r) (bytes_of s) q))
-
--- a run with what another one has beyond it
-abbrev pub longer : SourceRun → SourceRun → SourceRun
-longer r s = record { channel = r.channel; first = r.first; last = max r.last s.last }
-
-pub longer_has : (r s : SourceRun) (q : SourceByte) → r.channel ≡ s.channel → r.first ≤ s.first → s.first ≤ r.last + 1
-    → has source_cmp q (bytes_of (longer r s)) ≡ (has source_cmp q (bytes_of r) || has source_cmp q (bytes_of s))
-longer_has r s q same first left = have_both r s (longer r s) q split
-    (λ i. record { channel = i.channel; first = i.first; last = omega (arith, i.last) })
-    (λ i. record { channel = i.channel ∙ sym same; first = omega (arith, i.first, first); last = omega (arith, i.last) }) where
-      split : IsOf q (longer r s) → IsOf q r ⊎ IsOf q s
-      split i = elim (lt_or r.last q.offset) [
-        | inl k ↦ inr (record { channel = i.channel ∙ same; first = omega (arith, k, left); last = omega (arith, k, i.last) })
-        | inr k ↦ inl (record { channel = i.channel; first = i.first; last = k })
-      ]
+    (λ q. hull_has r s q e ∙ sym (has-union source_total (bytes_of r) (bytes_of s) q))

@@ -1,12 +1,12 @@
 -- Runs that ascend, joined where they go on.
-use Rattle.std.proofs.Common.{◌≡◌, ℕ, suc, ◌+◌, ◌<◌, ◌≤◌, List, [], ◌∷◌, ◌++◌, refl, ap, sym, ◌∙◌, subst, Bool, true, false, ◌||◌, if◌then◌else◌, arith, slice_index_or, ◌⊎◌, inl, inr, append-nil, append_assoc, nat_cmp}
+use Rattle.std.proofs.Common.{◌≡◌, ℕ, suc, ◌+◌, ◌<◌, ◌≤◌, List, [], ◌∷◌, ◌++◌, refl, ap, sym, ◌∙◌, subst, Bool, true, false, ◌||◌, if◌then◌else◌, arith, slice_index_or, ◌⊎◌, inl, inr, append-nil, nat_cmp, min}
 use Rattle.std.specs.List.{list_any}
 use Rattle.std.specs.List.Sorted.{IsSorted, IsPermutation}
 use Rattle.std.specs.Ordering.{MatchOrdering, eq_by_cmp, is_eq, is_lt, ordering_then}
 use Rattle.std.specs.Cmp.{ranked, tied_itself}
 use Rattle.std.specs.declared.cmp.Ordering.{Ordering}
 use Rattle.std.specs.declared.cmp.Ordering.TheVariants.{Less, Equal, Greater}
-use Rattle.std.proofs.lemmas.Bool.{or_left, or_right, or_cases}
+use Rattle.std.proofs.lemmas.Bool.{cases_Bool, or_left, or_right, or_cases}
 use Rattle.std.proofs.lemmas.Bool.Decides.{nat_tests}
 use Rattle.std.proofs.lemmas.List.Folds.{list_any-append}
 use Rattle.std.proofs.lemmas.List.Sorted.{list_any-IsPermutation}
@@ -19,7 +19,7 @@ use Rattle.flow_model.proofs.Orders.{source_total}
 use Rattle.source_runs.specs.declared.runs.SourceRun.{SourceRun}
 use Rattle.source_runs.specs.contracts.runs.SourceRunOrd.TheImpl as of_run_order
 use Rattle.source_runs.specs.Runs.{bytes_of, all_bytes, goes_on, IsBefore, Rise, AreRising, Stop, AreLongest}
-use Rattle.source_runs.proofs.Bytes.{IsOf, of_run, run_ascends, less, longer, longer_has}
+use Rattle.source_runs.proofs.Bytes.{IsOf, of_run, run_ascends, less, touches, hull, hull_has}
 
 -- ---- runs in order
 
@@ -54,70 +54,59 @@ sorted_rising (r ∷ rs) h = sorted_rise r rs h
 
 abbrev pub joined_from : SourceRun → List SourceRun → List SourceRun
 joined_from r [] = r ∷ []
-joined_from r (s ∷ ss) = if goes_on r s then joined_from (longer r s) ss else r ∷ joined_from s ss
+joined_from r (s ∷ ss) = if touches r s then joined_from (hull r s) ss else r ∷ joined_from s ss
 
 abbrev pub joined_all : List SourceRun → List SourceRun
 joined_all [] = []
 joined_all (r ∷ rs) = joined_from r rs
 
--- the next run goes on from the current one
-pub next_joined : (joined : List SourceRun) (r s : SourceRun) (ss all : List SourceRun) → goes_on r s ≡ true → joined ++ joined_from r (s ∷ ss) ≡ all → joined ++ joined_from (longer r s) ss ≡ all
-next_joined joined r s ss all e h = ap (λ (b : Bool). joined ++ (if b then joined_from (longer r s) ss else r ∷ joined_from s ss)) (sym e) ∙ h
+-- the next run touches the current one
+pub next_joined : (r s : SourceRun) (ss : List SourceRun) → touches r s ≡ true → joined_from r (s ∷ ss) ≡ joined_from (hull r s) ss
+next_joined r s ss e = ap (λ (b : Bool). if b then joined_from (hull r s) ss else r ∷ joined_from s ss) e
 
--- the next run doesn't go on from the current one
-pub next_apart : (joined : List SourceRun) (r s : SourceRun) (ss all : List SourceRun) → goes_on r s ≡ false → joined ++ joined_from r (s ∷ ss) ≡ all → (joined ++ r ∷ []) ++ joined_from s ss ≡ all
-next_apart joined r s ss all e h =
-    append_assoc joined (r ∷ []) (joined_from s ss) ∙ ap (λ (b : Bool). joined ++ (if b then joined_from (longer r s) ss else r ∷ joined_from s ss)) (sym e) ∙ h
+-- the next run is apart from the current one
+pub next_apart : (r s : SourceRun) (ss : List SourceRun) → touches r s ≡ false → joined_from r (s ∷ ss) ≡ r ∷ joined_from s ss
+next_apart r s ss e = ap (λ (b : Bool). if b then joined_from (hull r s) ss else r ∷ joined_from s ss) e
 
 pub has-all : (q : SourceByte) (r : SourceRun) (rs : List SourceRun) → has source_cmp q (all_bytes (r ∷ rs)) ≡ (has source_cmp q (bytes_of r) || has source_cmp q (all_bytes rs))
 has-all q r rs = list_any-append (eq_by_cmp source_cmp q) (bytes_of r) (all_bytes rs)
 
-record GoOn (r s : SourceRun) : Type 0 where
-  channel : s.channel ≡ r.channel
-  first : s.first ≤ r.last + 1
+stop : (r s : SourceRun) → touches r s ≡ false → IsBefore r s → r.channel ≡ s.channel → r.last + 1 < s.first
+stop r s e (inl b) same = absurd (omega (arith, b, same))
+stop r s e (inr b) same = grind (arith, nat_tests)
 
-go_on : (r s : SourceRun) → goes_on r s ≡ true → GoOn r s
-go_on r s e = record { channel = grind (arith, nat_tests); first = grind (arith, nat_tests) }
+not_on : (r s : SourceRun) → touches r s ≡ false → IsBefore r s → goes_on r s ≡ false
+not_on r s e (inl b) = grind (arith, nat_tests)
+not_on r s e (inr b) = grind (arith, nat_tests)
 
-stop : (r s : SourceRun) → goes_on r s ≡ false → r.channel ≡ s.channel → r.last + 1 < s.first
-stop r s e same = grind (arith, nat_tests)
+hull_first : (r s : SourceRun) → touches r s ≡ true → IsBefore r s → r.first ≤ s.first
+hull_first r s e (inl b) = absurd (grind (arith, nat_tests))
+hull_first r s e (inr b) = b.1
 
-rise_longer : (r s : SourceRun) (ss : List SourceRun) → IsBefore r s → goes_on r s ≡ true → Rise s ss → Rise (longer r s) ss
-rise_longer r s [] b e h = tt
-rise_longer r s (t ∷ ts) b e h = (by b h.0, h.1) where
-  g : GoOn r s
-  g = go_on r s e
-
-  by : IsBefore r s → IsBefore s t → IsBefore (longer r s) t
-  by (inl k) c = absurd (omega (arith, k, g.channel))
+rise_hull : (r s : SourceRun) (ss : List SourceRun) → touches r s ≡ true → Rise r (s ∷ ss) → Rise (hull r s) ss
+rise_hull r s [] e h = tt
+rise_hull r s (t ∷ ts) e h = (by h.0 h.1.0, h.1.1) where
+  by : IsBefore r s → IsBefore s t → IsBefore (hull r s) t
+  by (inl k) c = absurd (grind (arith, nat_tests))
   by (inr k) (inl c) = inl (omega (arith, c, k.0))
   by (inr k) (inr c) = inr (k.0 ∙ c.0, omega (arith, k.1, c.1))
-
-next_has : (r s : SourceRun) (q : SourceByte) → IsBefore r s → goes_on r s ≡ true → has source_cmp q (bytes_of (longer r s)) ≡ (has source_cmp q (bytes_of r) || has source_cmp q (bytes_of s))
-next_has r s q b e = by b where
-  g : GoOn r s
-  g = go_on r s e
-
-  by : IsBefore r s → has source_cmp q (bytes_of (longer r s)) ≡ (has source_cmp q (bytes_of r) || has source_cmp q (bytes_of s))
-  by (inl k) = absurd (omega (arith, k, g.channel))
-  by (inr k) = longer_has r s q k.0 k.1 g.first
 
 pub or_grouped : (a b c : Bool) → ((a || b) || c) ≡ (a || (b || c))
 or_grouped true b c = refl
 or_grouped false b c = refl
 
-pub joined_members : (r : SourceRun) (ss : List SourceRun) → Rise r ss → (q : SourceByte) → has source_cmp q (all_bytes (joined_from r ss)) ≡ has source_cmp q (all_bytes (r ∷ ss))
-joined_members r [] h q = refl
-joined_members r (s ∷ ss) h q = by (goes_on r s) refl (joined_members (longer r s) ss) (joined_members s ss h.1) where
-  by : (b : Bool) → goes_on r s ≡ b
-      → (Rise (longer r s) ss → (q : SourceByte) → has source_cmp q (all_bytes (joined_from (longer r s) ss)) ≡ has source_cmp q (all_bytes (longer r s ∷ ss)))
-      → ((q : SourceByte) → has source_cmp q (all_bytes (joined_from s ss)) ≡ has source_cmp q (all_bytes (s ∷ ss)))
-      → has source_cmp q (all_bytes (if b then joined_from (longer r s) ss else r ∷ joined_from s ss)) ≡ has source_cmp q (all_bytes (r ∷ s ∷ ss))
-  by true e on off =
-      on (rise_longer r s ss h.0 e h.1) q ∙ has-all q (longer r s) ss ∙ ap (λ (b : Bool). b || has source_cmp q (all_bytes ss)) (next_has r s q h.0 e)
+pub joined_members : (r : SourceRun) (ss : List SourceRun) (q : SourceByte) → has source_cmp q (all_bytes (joined_from r ss)) ≡ has source_cmp q (all_bytes (r ∷ ss))
+joined_members r [] q = refl
+joined_members r (s ∷ ss) q = elim (cases_Bool (touches r s)) [
+  | inl e ↦
+      ap (λ (rs : List SourceRun). has source_cmp q (all_bytes rs)) (next_joined r s ss e) ∙ joined_members (hull r s) ss q ∙ has-all q (hull r s) ss
+      ∙ ap (λ (b : Bool). b || has source_cmp q (all_bytes ss)) (hull_has r s q e)
       ∙ or_grouped (has source_cmp q (bytes_of r)) (has source_cmp q (bytes_of s)) (has source_cmp q (all_bytes ss))
       ∙ ap (λ (b : Bool). has source_cmp q (bytes_of r) || b) (sym (has-all q s ss)) ∙ sym (has-all q r (s ∷ ss))
-  by false e on off = has-all q r (joined_from s ss) ∙ ap (λ (b : Bool). has source_cmp q (bytes_of r) || b) (off q) ∙ sym (has-all q r (s ∷ ss))
+  | inr e ↦
+      ap (λ (rs : List SourceRun). has source_cmp q (all_bytes rs)) (next_apart r s ss e) ∙ has-all q r (joined_from s ss)
+      ∙ ap (λ (b : Bool). has source_cmp q (bytes_of r) || b) (joined_members s ss q) ∙ sym (has-all q r (s ∷ ss))
+]
 
 -- ---- ascending
 
@@ -164,35 +153,36 @@ all_after s ss h y m = elim (or_cases (has source_cmp y (bytes_of s)) (has sourc
 
 pub joined_ascends : (r : SourceRun) (ss : List SourceRun) → Rise r ss → Ascends source_cmp (all_bytes (joined_from r ss))
 joined_ascends r [] h = subst (Ascends source_cmp) (sym (append-nil (bytes_of r))) (run_ascends r)
-joined_ascends r (s ∷ ss) h = by (goes_on r s) refl (joined_ascends (longer r s) ss) (joined_ascends s ss h.1) where
-  first_less : (x y : SourceByte) → IsOf x r → IsBefore r s → IsAfter s y → goes_on r s ≡ false → (x.channel < y.channel) ⊎ ((x.channel ≡ y.channel) × (x.offset < y.offset))
+joined_ascends r (s ∷ ss) h = elim (cases_Bool (touches r s)) [
+  | inl e ↦ subst (λ (rs : List SourceRun). Ascends source_cmp (all_bytes rs)) (sym (next_joined r s ss e)) (joined_ascends (hull r s) ss (rise_hull r s ss e h))
+  | inr e ↦
+      subst (λ (rs : List SourceRun). Ascends source_cmp (all_bytes rs)) (sym (next_apart r s ss e))
+      (ascends_append (bytes_of r) (all_bytes (joined_from s ss)) (run_ascends r) (joined_ascends s ss h.1)
+      (λ x y l m. less x y (first_less x y (of_run x r l) h.0 (all_after s ss h.1 y (sym (joined_members s ss y) ∙ m)) e)))
+] where
+  first_less : (x y : SourceByte) → IsOf x r → IsBefore r s → IsAfter s y → touches r s ≡ false → (x.channel < y.channel) ⊎ ((x.channel ≡ y.channel) × (x.offset < y.offset))
   first_less x y i (inl b) (inl a) e = inl (omega (arith, i.channel, b, a))
   first_less x y i (inl b) (inr a) e = inl (omega (arith, i.channel, b, a.0))
   first_less x y i (inr b) (inl a) e = inl (omega (arith, i.channel, b.0, a))
-  first_less x y i (inr b) (inr a) e = inr (i.channel ∙ b.0 ∙ a.0, let apart = stop r s e b.0 in omega (arith, i.last, apart, a.1))
-
-  by : (b : Bool) → goes_on r s ≡ b → (Rise (longer r s) ss → Ascends source_cmp (all_bytes (joined_from (longer r s) ss))) → Ascends source_cmp (all_bytes (joined_from s ss))
-      → Ascends source_cmp (all_bytes (if b then joined_from (longer r s) ss else r ∷ joined_from s ss))
-  by true e on off = on (rise_longer r s ss h.0 e h.1)
-  by false e on off = ascends_append (bytes_of r) (all_bytes (joined_from s ss)) (run_ascends r) off
-      (λ x y l m. less x y (first_less x y (of_run x r l) h.0 (all_after s ss h.1 y (sym (joined_members s ss h.1 y) ∙ m)) e))
+  first_less x y i (inr b) (inr a) e = inr (i.channel ∙ b.0 ∙ a.0, let apart = stop r s e (inr b) b.0 in omega (arith, i.last, apart, a.1))
 
 -- ---- as long as can be
 
-stops : (q r : SourceRun) (ss : List SourceRun) → goes_on q r ≡ false → Stop q (joined_from r ss)
-stops q r [] h = (h, tt)
-stops q r (s ∷ ss) h = by (goes_on r s) refl (stops q (longer r s) ss h) (stops r s ss) where
-  by : (b : Bool) → goes_on r s ≡ b → Stop q (joined_from (longer r s) ss) → (goes_on r s ≡ false → Stop r (joined_from s ss))
-      → Stop q (if b then joined_from (longer r s) ss else r ∷ joined_from s ss)
-  by true e on off = on
-  by false e on off = (h, off e)
+stops : (q r : SourceRun) (ss : List SourceRun) → Rise r ss → goes_on q r ≡ false → Stop q (joined_from r ss)
+stops q r [] h e = (e, tt)
+stops q r (s ∷ ss) h e = elim (cases_Bool (touches r s)) [
+  | inl t ↦
+      let first : min r.first s.first ≡ r.first = omega (arith, hull_first r s t h.0) in
+      subst (Stop q) (sym (next_joined r s ss t)) (stops q (hull r s) ss (rise_hull r s ss t h) (rw first e))
+  | inr t ↦ subst (Stop q) (sym (next_apart r s ss t)) (e, stops r s ss h.1 (not_on r s t h.0))
+]
 
-joined_longest : (r : SourceRun) (ss : List SourceRun) → AreLongest (joined_from r ss)
-joined_longest r [] = tt
-joined_longest r (s ∷ ss) = by (goes_on r s) refl (joined_longest (longer r s) ss) where
-  by : (b : Bool) → goes_on r s ≡ b → AreLongest (joined_from (longer r s) ss) → AreLongest (if b then joined_from (longer r s) ss else r ∷ joined_from s ss)
-  by true e on = on
-  by false e on = stops r s ss e
+joined_longest : (r : SourceRun) (ss : List SourceRun) → Rise r ss → AreLongest (joined_from r ss)
+joined_longest r [] h = tt
+joined_longest r (s ∷ ss) h = elim (cases_Bool (touches r s)) [
+  | inl e ↦ subst AreLongest (sym (next_joined r s ss e)) (joined_longest (hull r s) ss (rise_hull r s ss e h))
+  | inr e ↦ subst AreLongest (sym (next_apart r s ss e)) (stops r s ss h.1 (not_on r s e h.0))
+]
 
 -- ---- sorted and joined
 
@@ -202,14 +192,14 @@ sorted_has q rs ss p = sym (any-flat ss) ∙ sym (list_any-IsPermutation (λ r. 
   any-flat [] = refl
   any-flat (r ∷ rs) = ap (λ (b : Bool). has source_cmp q (bytes_of r) || b) (any-flat rs) ∙ sym (has-all q r rs)
 
-pub joined_all_members : (rs : List SourceRun) → AreRising rs → (q : SourceByte) → has source_cmp q (all_bytes (joined_all rs)) ≡ has source_cmp q (all_bytes rs)
-joined_all_members [] h q = refl
-joined_all_members (r ∷ rs) h q = joined_members r rs h q
+pub joined_all_members : (rs : List SourceRun) (q : SourceByte) → has source_cmp q (all_bytes (joined_all rs)) ≡ has source_cmp q (all_bytes rs)
+joined_all_members [] q = refl
+joined_all_members (r ∷ rs) q = joined_members r rs q
 
 pub joined_all_ascends : (rs : List SourceRun) → AreRising rs → Ascends source_cmp (all_bytes (joined_all rs))
 joined_all_ascends [] h = tt
 joined_all_ascends (r ∷ rs) h = joined_ascends r rs h
 
-pub joined_all_longest : (rs : List SourceRun) → AreLongest (joined_all rs)
-joined_all_longest [] = tt
-joined_all_longest (r ∷ rs) = joined_longest r rs
+pub joined_all_longest : (rs : List SourceRun) → AreRising rs → AreLongest (joined_all rs)
+joined_all_longest [] h = tt
+joined_all_longest (r ∷ rs) h = joined_longest r rs h

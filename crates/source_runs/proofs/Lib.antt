@@ -1,3 +1,2 @@
 pub mod Bytes
 mod Joined
-mod Neighbours

@@ -4,7 +4,7 @@ ghost use Rattle.std.specs.Prelude.{◌≡◌, ◌++◌, [], OnOk};
 ghost use Rattle.lists.specs.Sets.{Ascends, has};
 ghost use Rattle.flow_model.specs.Orders.{source_cmp};
 ghost use Rattle.flow_model.specs.declared.SourceByte.{SourceByte as Source};
-ghost use Rattle.source_runs.specs.Runs.{all_bytes, bytes_of, goes_on as runs_go_on, AreLongest, AreRising};
+ghost use Rattle.source_runs.specs.Runs.{all_bytes, bytes_of, AreLongest, AreRising};
 
 use crate::runs::SourceRun;
 use flow_model::SourceByte;
@@ -22,49 +22,25 @@ pub fn normalise(runs: &mut Vec<SourceRun>, spare: &mut Vec<SourceRun>) -> Resul
     join_neighbours(runs, spare)?;
     spare.sort_unstable();
     runs.clear();
-    join_sorted(spare, runs)
+    join_neighbours(spare, runs)
 }
 
 /// The runs, with each that overlaps or touches those just before it joined to them: where runs nearly ascend or descend, few are
-/// left to be sorted.
+/// left to be sorted; and where they ascend by channel and first offset, none that are left overlap or touch.
 fn join_neighbours(runs: &[SourceRun], joined: &mut Vec<SourceRun>) -> Result<(), NoMemory>
     requires { joined.old.items ≡ [] }
-    ensures { OnOk result
-        ((b : Source) → has source_cmp b (all_bytes joined.new.items) ≡ has source_cmp b (all_bytes runs.now)) }
-{
-    let Some((first, more)) = runs.split_first() else {
-        return Ok(());
-    };
-    let mut current = *first;
-    for run in more {
-        match current.joined(*run) {
-            Some(both) => current = both,
-            None => {
-                joined.push(current)?;
-                current = *run;
-            }
-        }
-    }
-    joined.push(current)?;
-    Ok(())
-}
-
-/// Of runs that ascend by channel and first offset, those that overlap or touch as one.
-fn join_sorted(runs: &[SourceRun], joined: &mut Vec<SourceRun>) -> Result<(), NoMemory>
-    requires rising { AreRising runs.now }
-    requires none { joined.old.items ≡ [] }
     ensures members { OnOk result
         ((b : Source) → has source_cmp b (all_bytes joined.new.items) ≡ has source_cmp b (all_bytes runs.now)) }
-    ensures ascending { OnOk result (Ascends source_cmp (all_bytes joined.new.items)) }
-    ensures longest { OnOk result (AreLongest joined.new.items) }
+    ensures ascending { OnOk result (AreRising runs.now → Ascends source_cmp (all_bytes joined.new.items)) }
+    ensures longest { OnOk result (AreRising runs.now → AreLongest joined.new.items) }
 {
     let Some((first, more)) = runs.split_first() else {
         return Ok(());
     };
     let mut current = *first;
     for run in more {
-        if goes_on(current, *run) {
-            current.last = current.last.max(run.last);
+        if current.touches(*run) {
+            current = current.hull(*run);
         } else {
             joined.push(current)?;
             current = *run;
@@ -72,13 +48,6 @@ fn join_sorted(runs: &[SourceRun], joined: &mut Vec<SourceRun>) -> Result<(), No
     }
     joined.push(current)?;
     Ok(())
-}
-
-/// Whether a run of the same channel begins inside another one, or right after it.
-fn goes_on(run: SourceRun, next: SourceRun) -> bool
-    ensures { result ≡ runs_go_on run next }
-{
-    next.channel == run.channel && next.first as u64 <= run.last as u64 + 1
 }
 
 /// Appends the bytes of runs, one run after another. It fails only where there is no memory.

@@ -1,9 +1,9 @@
 //! A run of source bytes.
 
-ghost use Rattle.std.specs.Prelude.{◌≡◌, ◌∷◌, [], None, IfSome};
+ghost use Rattle.std.specs.Prelude.{◌≡◌, ◌+◌, ◌&&◌, ◌||◌, ◌∷◌, [], nat_le, min, max, None, IfSome};
 ghost use Rattle.lists.specs.Sets.{union};
 ghost use Rattle.flow_model.specs.Orders.{source_cmp};
-ghost use Rattle.source_runs.specs.Runs.{bytes_of, AreApart};
+ghost use Rattle.source_runs.specs.Runs.{bytes_of, goes_on, AreApart};
 
 use flow_model::SourceByte;
 
@@ -34,16 +34,32 @@ impl SourceRun {
         ensures joined { IfSome result (λ run. bytes_of run ≡ union source_cmp (bytes_of self) (bytes_of other)) }
         ensures none { result ≡ None → AreApart self other }
     {
-        if self.channel != other.channel {
-            return None;
+        if self.touches(other) {
+            Some(self.hull(other))
+        } else {
+            None
         }
-        if other.first as u64 > self.last as u64 + 1 || self.first as u64 > other.last as u64 + 1 {
-            return None;
-        }
-        Some(SourceRun {
+    }
+
+    /// Whether both are of one channel, and overlap or touch.
+    #[inline(always)]
+    pub(crate) fn touches(self, other: SourceRun) -> bool
+        ensures { result ≡ (goes_on self other && (nat_le self.first other.first || nat_le self.first (other.last + 1))) }
+    {
+        self.channel == other.channel
+            && other.first as u64 <= self.last as u64 + 1
+            && (self.first <= other.first || self.first as u64 <= other.last as u64 + 1)
+    }
+
+    /// From where the first of both begins to where the last of them ends.
+    #[inline(always)]
+    pub(crate) fn hull(self, other: SourceRun) -> SourceRun
+        ensures { result ≡ record { channel = self.channel; first = min self.first other.first; last = max self.last other.last } }
+    {
+        SourceRun {
             channel: self.channel,
             first: self.first.min(other.first),
             last: self.last.max(other.last),
-        })
+        }
     }
 }
