@@ -1,10 +1,9 @@
 -- The bytes of runs: their order, and which they are. Crates above cite these lemmas.
-use Rattle.std.proofs.Common.{◌≡◌, ℕ, zero, suc, ◌+◌, ◌-◌, ◌<◌, ◌≤◌, [], ◌∷◌, refl, ap, ap₂, sym, ◌∙◌, subst, Bool, true, false, ◌&&◌, ◌||◌, nat_le, nat_lt, arith, ◌⊎◌, inl, inr, min, max}
+use Rattle.std.proofs.Common.{◌≡◌, ℕ, zero, suc, ◌+◌, ◌-◌, ◌<◌, ◌≤◌, [], ◌∷◌, refl, ap, ap₂, sym, ◌∙◌, subst, Bool, true, false, ◌&&◌, ◌||◌, nat_le, arith, ◌⊎◌, inl, inr, min, max}
 use Rattle.std.specs.Ordering.{eq_by_cmp, is_eq}
 use Rattle.std.specs.Cmp.{nat_cmp_is, tied_itself}
 use Rattle.std.specs.declared.cmp.Ordering.TheVariants.{Less, Equal}
-use Rattle.std.proofs.lemmas.Grind.{common_steps}
-use Rattle.std.proofs.lemmas.Bool.{or_left, or_right, or_cases}
+use Rattle.std.proofs.lemmas.Bool.{cases_lt, or_left, or_right, or_cases}
 use Rattle.std.proofs.lemmas.Bool.Decides.{nat_tests}
 use Rattle.lists.specs.Sets.{union, has, IsBelow, Ascends}
 use Rattle.lists.proofs.Algebra.{Ascends-union, has-union, same_list, tied_by}
@@ -14,12 +13,6 @@ use Rattle.flow_model.specs.Orders.{source_cmp}
 use Rattle.flow_model.proofs.Orders.{source_total, source_same, source_cmp-channel}
 use Rattle.source_runs.specs.declared.runs.SourceRun.{SourceRun}
 use Rattle.source_runs.specs.Runs.{byte_on, bytes_from, bytes_of, goes_on}
-
-pub lt_or : (i n : ℕ) → (i < n) ⊎ (n ≤ i)
-lt_or i n = by (nat_lt i n) refl where
-  by : (b : Bool) → nat_lt i n ≡ b → (i < n) ⊎ (n ≤ i)
-  by true p = inl (grind (arith, common_steps, p))
-  by false p = inr (grind (arith, common_steps, p))
 
 -- ---- the order
 
@@ -45,15 +38,16 @@ run_ascends r = offsets_ascend r.channel r.first (r.last + 1 - r.first)
 
 -- ---- which they are
 
-record IsFrom (q : SourceByte) (c a n : ℕ) : Type 0 where
-  channel : q.channel ≡ c
-  low : a ≤ q.offset
-  high : q.offset < a + n
+-- the byte is one of so many of a channel
+pub record IsFrom (q : SourceByte) (c a n : ℕ) : Type 0 where
+  pub channel : q.channel ≡ c
+  pub low : a ≤ q.offset
+  pub high : q.offset < a + n
 
 byte_is : (q : SourceByte) (c a : ℕ) → q.channel ≡ c → q.offset ≡ a → q ≡ byte_on c a
 byte_is q c a e f = ap₂ (λ (x y : ℕ). byte_on x y) e f
 
-one_of : (q : SourceByte) (c a n : ℕ) → has source_cmp q (bytes_from c a n) ≡ true → IsFrom q c a n
+pub one_of : (q : SourceByte) (c a n : ℕ) → has source_cmp q (bytes_from c a n) ≡ true → IsFrom q c a n
 one_of q c a zero h = true-false (sym h)
 one_of q c a (suc n) h = by (eq_by_cmp source_cmp q (byte_on c a)) refl h (one_of q c (a + 1) n) where
   by : (b : Bool) → eq_by_cmp source_cmp q (byte_on c a) ≡ b → (b || has source_cmp q (bytes_from c (a + 1) n)) ≡ true
@@ -66,9 +60,9 @@ one_of q c a (suc n) h = by (eq_by_cmp source_cmp q (byte_on c a)) refl h (one_o
       let f = later g in
       record { channel = f.channel; low = omega (arith, f.low); high = omega (arith, f.high) }
 
-is_one : (q : SourceByte) (c a n : ℕ) → IsFrom q c a n → has source_cmp q (bytes_from c a n) ≡ true
+pub is_one : (q : SourceByte) (c a n : ℕ) → IsFrom q c a n → has source_cmp q (bytes_from c a n) ≡ true
 is_one q c a zero f = absurd (omega (arith, f.low, f.high))
-is_one q c a (suc n) f = by (lt_or a q.offset) (is_one q c (a + 1) n) where
+is_one q c a (suc n) f = by (cases_lt a q.offset) (is_one q c (a + 1) n) where
   by : (a < q.offset) ⊎ (q.offset ≤ a) → (IsFrom q c (a + 1) n → has source_cmp q (bytes_from c (a + 1) n) ≡ true)
       → (eq_by_cmp source_cmp q (byte_on c a) || has source_cmp q (bytes_from c (a + 1) n)) ≡ true
   by (inl h) later =
@@ -128,9 +122,9 @@ hull_has r s q e = have_both r s (hull r s) q split
       same = grind (arith, nat_tests)
 
       split : IsOf q (hull r s) → IsOf q r ⊎ IsOf q s
-      split i = elim (lt_or q.offset r.first) [
+      split i = elim (cases_lt q.offset r.first) [
         | inl p ↦ inr (record { channel = i.channel ∙ same; first = omega (arith, p, i.first); last = grind (arith, nat_tests) })
-        | inr p ↦ elim (lt_or r.last q.offset) [
+        | inr p ↦ elim (cases_lt r.last q.offset) [
           | inl k ↦ inr (record { channel = i.channel ∙ same; first = grind (arith, nat_tests); last = omega (arith, k, i.last) })
           | inr k ↦ inl (record { channel = i.channel; first = p; last = k })
         ]

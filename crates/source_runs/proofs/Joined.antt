@@ -2,12 +2,14 @@
 use Rattle.std.proofs.Common.{◌≡◌, ℕ, suc, ◌+◌, ◌<◌, ◌≤◌, List, [], ◌∷◌, ◌++◌, refl, ap, sym, ◌∙◌, subst, Bool, true, false, ◌||◌, if◌then◌else◌, arith, slice_index_or, ◌⊎◌, inl, inr, append-nil, nat_cmp, min}
 use Rattle.std.specs.List.{list_any}
 use Rattle.std.specs.List.Sorted.{IsSorted, IsPermutation}
-use Rattle.std.specs.Ordering.{MatchOrdering, eq_by_cmp, is_eq, is_lt, ordering_then}
-use Rattle.std.specs.Cmp.{ranked, tied_itself}
+use Rattle.std.specs.Ordering.{MatchOrdering, eq_by_cmp, is_lt, ordering_then}
+use Rattle.std.specs.Cmp.{ranked}
 use Rattle.std.specs.declared.cmp.Ordering.{Ordering}
 use Rattle.std.specs.declared.cmp.Ordering.TheVariants.{Less, Equal, Greater}
+use Rattle.std.proofs.Math.Bool.{or_assoc}
 use Rattle.std.proofs.lemmas.Bool.{cases_Bool, or_left, or_right, or_cases}
 use Rattle.std.proofs.lemmas.Bool.Decides.{nat_tests}
+use Rattle.std.proofs.lemmas.Cmp.{eq_by_cmp_equiv}
 use Rattle.std.proofs.lemmas.List.Folds.{list_any-append}
 use Rattle.std.proofs.lemmas.List.Sorted.{list_any-IsPermutation}
 use Rattle.lists.specs.Sets.{has, IsBelow, Ascends}
@@ -91,17 +93,13 @@ rise_hull r s (t ∷ ts) e h = (by h.0 h.1.0, h.1.1) where
   by (inr k) (inl c) = inl (omega (arith, c, k.0))
   by (inr k) (inr c) = inr (k.0 ∙ c.0, omega (arith, k.1, c.1))
 
-pub or_grouped : (a b c : Bool) → ((a || b) || c) ≡ (a || (b || c))
-or_grouped true b c = refl
-or_grouped false b c = refl
-
 pub joined_members : (r : SourceRun) (ss : List SourceRun) (q : SourceByte) → has source_cmp q (all_bytes (joined_from r ss)) ≡ has source_cmp q (all_bytes (r ∷ ss))
 joined_members r [] q = refl
 joined_members r (s ∷ ss) q = elim (cases_Bool (touches r s)) [
   | inl e ↦
       ap (λ (rs : List SourceRun). has source_cmp q (all_bytes rs)) (next_joined r s ss e) ∙ joined_members (hull r s) ss q ∙ has-all q (hull r s) ss
       ∙ ap (λ (b : Bool). b || has source_cmp q (all_bytes ss)) (hull_has r s q e)
-      ∙ or_grouped (has source_cmp q (bytes_of r)) (has source_cmp q (bytes_of s)) (has source_cmp q (all_bytes ss))
+      ∙ or_assoc (has source_cmp q (bytes_of r)) (has source_cmp q (bytes_of s)) (has source_cmp q (all_bytes ss))
       ∙ ap (λ (b : Bool). has source_cmp q (bytes_of r) || b) (sym (has-all q s ss)) ∙ sym (has-all q r (s ∷ ss))
   | inr e ↦
       ap (λ (rs : List SourceRun). has source_cmp q (all_bytes rs)) (next_apart r s ss e) ∙ has-all q r (joined_from s ss)
@@ -111,7 +109,7 @@ joined_members r (s ∷ ss) q = elim (cases_Bool (touches r s)) [
 -- ---- ascending
 
 itself : (x : SourceByte) → eq_by_cmp source_cmp x x ≡ true
-itself x = ap is_eq (tied_itself source_total x)
+itself = (eq_by_cmp_equiv source_total).refl
 
 below_each : (x : SourceByte) (ys : List SourceByte) → ((y : SourceByte) → has source_cmp y ys ≡ true → source_cmp x y ≡ Less) → IsBelow source_cmp x ys
 below_each x [] h = tt
