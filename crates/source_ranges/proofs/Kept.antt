@@ -14,6 +14,7 @@ use Rattle.lists.specs.Sets.{Ascends}
 use Rattle.flow_model.specs.Orders.{source_cmp}
 use Rattle.source_runs.specs.declared.runs.SourceRun.{SourceRun}
 use Rattle.source_runs.proofs.Bytes.{run_ascends}
+pub use Rattle.source_runs.proofs.Bytes.{IsFrom, one_of, is_one}
 use Rattle.source_ranges.specs.Kept.{IsRange, AreKept}
 use Rattle.source_ranges.specs.RangeLaws.{AreApart}
 use Rattle.source_ranges.specs.Ranges.{byte_on, bytes_of, ranges_of}

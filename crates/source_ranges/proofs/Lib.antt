@@ -1,4 +1,3 @@
 pub mod Longest
 pub mod Kept
-pub mod Alike
 pub mod Worked

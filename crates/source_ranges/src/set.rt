@@ -66,8 +66,7 @@ impl SourceSet {
             return Ok(SourceSet::of_range(first));
         }
         let mut ranges = Vec::new(alloc);
-        ranges.push(first)?;
-        push_ranges(&mut ranges, rest)?;
+        push_ranges(&mut ranges, sources)?;
         Ok(SourceSet::of_ranges(ranges))
     }
 
