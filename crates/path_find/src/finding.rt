@@ -1,23 +1,22 @@
-//! One pass over the run, up to the sink.
+//! The path of a pair, found in a pass over the run.
 
-ghost use Rattle.std.specs.Prelude.{◌≡◌, ◌≤◌, List, IfOk, IfSome};
-ghost use Rattle.log_model.specs.Logs.{steps};
+ghost use Rattle.std.specs.Prelude.{◌≡◌, List, IfOk, IfSome};
 ghost use Rattle.flow_model.specs.declared.Rule.{Rule as RuleOfFlow};
 ghost use Rattle.flow_model.specs.declared.SourceByte.{SourceByte as Source};
 ghost use Rattle.flow_model.specs.declared.StepSeen.{StepSeen as Step};
 ghost use Rattle.flow_model.specs.Ranges.{IsLocation};
-ghost use Rattle.replayer.specs.Jobs.{trace_of};
 ghost use Rattle.path_find.specs.Paths.{path};
-ghost use Rattle.path_find.specs.FirstPair.{sink_of, ended_in, path_to_sink};
+ghost use Rattle.path_find.specs.FirstPair.{ended_in};
 ghost use Rattle.path_find.specs.Trails.{IsTrail, IsAfter};
 ghost use Rattle.path_find.specs.Sinks.{IsLocated, shown_path};
+ghost use Rattle.path_find.specs.Watched.{IsFound};
 
-use crate::sinks::{sink_at_end, sink_in};
 use crate::trail::Trail;
+use crate::watching::PathWatching;
 use crate::{Arrival, Pair};
 use flow_model::{Loc, Rule, SinkPoint};
 use no_memory::NoMemory;
-use replayer::{Cursor, Job, Next};
+use replayer::Job;
 use std::alloc::Global;
 
 /// A path, the latest arrival first, and the sink that it ends in: the number of steps done before it, and its location.
@@ -55,8 +54,8 @@ pub(crate) fn path_here(
     }))
 }
 
-/// The path of a pair's source byte to its sink in the run of a job, by a rule. None means that the run has no such sink, or
-/// that the source byte isn't among its origins.
+/// The path of a pair's source byte to its sink in the run of a job, by a rule, found while the run is gone through once more. None
+/// means that the run has no such sink, or that the source byte isn't among its origins.
 pub fn find_path(
     alloc: Global,
     job: &Job,
@@ -64,24 +63,9 @@ pub fn find_path(
     pair: Pair,
 ) -> Result<Option<SinkPath>, NoMemory>
     requires located { IsLocated pair }
-    ensures path { IfOk result (λ f. shown_path f ≡ path_to_sink rule pair.source (trace_of job.now)
-        (sink_of (trace_of job.now) pair.sink)) }
-
-    // The end of the path isn't after the run.
-    ensures inside { IfOk result (λ f. IfSome f (λ x. x.time ≤ steps job.now.log)) }
+    ensures { IfOk result (IsFound rule pair job.now) }
 {
-    job.form();
-    let mut cursor = Cursor::start(alloc, job)?;
-    let mut trail = Trail::new(alloc, rule, pair.source)?;
-    while let Next::Step(step) = cursor.next() {
-        if let Some(loc) = sink_in(&step, pair.sink) {
-            return path_here(alloc, &trail, pair.sink, step.number, loc);
-        }
-        trail.follow(&step)?;
-    }
-    let end = job.steps();
-    match sink_at_end(pair.sink, end) {
-        None => Ok(None),
-        Some(loc) => path_here(alloc, &trail, pair.sink, end, loc),
-    }
+    let mut watching = PathWatching::new(alloc, rule, pair);
+    job.watch(alloc, &mut watching)?;
+    watching.finish(job)
 }

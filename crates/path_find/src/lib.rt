@@ -7,7 +7,7 @@
 //! comes from the first location of the flow table that has the byte; a path has at most as many arrivals as there are steps;
 //! a path is told exactly where the report lists the source byte in the row of the sink, and the first pair of a report has one.
 //!
-//! One pass over the run up to the sink finds the path: each location that the source byte came to is labelled with its latest
+//! One pass over the run finds the path: each location that the source byte came to is labelled with its latest
 //! arrival and the node of the previous one (`trail`). A second pass tells the steps on it. Crates above rest on this:
 //! `first_pair` is the definition's; `answer` is the text of the path of a pair, and where the pair is the first of a report, it
 //! is `path_report` of the definitions, a function of the state that the run begins in, its log and the query. The same is the
