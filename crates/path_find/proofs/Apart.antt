@@ -3,9 +3,8 @@ use Rattle.std.proofs.Common.{◌≡◌, ℕ, zero, suc, ◌+◌, ◌==◌, ◌<
 use Rattle.std.specs.Prelude.{Option, None}
 use Rattle.std.specs.List.{AllByRecursion, range_with_len}
 use Rattle.std.specs.Option.{option_or}
-use Rattle.std.specs.declared.cmp.Ordering.{Ordering}
-use Rattle.std.specs.declared.cmp.Ordering.TheVariants.{Less, Equal, Greater}
-use Rattle.lists.specs.Sets.{union, inserted, placed}
+use Rattle.lists.specs.Sets.{union}
+use Rattle.lists.proofs.Algebra.{All-union}
 use Rattle.isa.specs.Machine.{wrap}
 use Rattle.flow_model.specs.declared.Loc.{Loc}
 use Rattle.flow_model.specs.declared.Loc.TheVariants.{Reg, Mem}
@@ -28,17 +27,8 @@ use Rattle.path_find.proofs.Places.{same_loc}
 -- ---- the locations of a store
 
 module _ (P : Loc → Type 0) where
-  in_inserted : (l : Loc) (ls : List Loc) → P l → AllByRecursion P ls → AllByRecursion P (inserted loc_cmp l ls)
-  in_inserted l [] h k = (h, tt)
-  in_inserted l (m ∷ ls) h k = by (in_inserted l ls h k.1) (loc_cmp l m) where
-    by : AllByRecursion P (inserted loc_cmp l ls) → (r : Ordering) → AllByRecursion P (placed r l m ls (inserted loc_cmp l ls))
-    by ih Less = (h, k)
-    by ih Equal = k
-    by ih Greater = (k.0, ih)
-
   in_union : (ls ms : List Loc) → AllByRecursion P ls → AllByRecursion P ms → AllByRecursion P (union loc_cmp ls ms)
-  in_union [] ms h k = k
-  in_union (l ∷ ls) ms h k = in_inserted l (union loc_cmp ls ms) h.0 (in_union ls ms h.1 k)
+  in_union = All-union loc_cmp P
 
   in_lane : (r i : ℕ) → P (Reg r i) → AllByRecursion P (lane r i)
   in_lane r i h = by (r == 0) where

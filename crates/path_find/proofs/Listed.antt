@@ -1,12 +1,13 @@
 -- A path is told exactly where the report lists the source byte. Crates above cite the first of these lemmas.
-use Rattle.std.proofs.Common.{◌≡◌, ℕ, ◌+◌, ◌≤◌, Bool, true, false, ◌&&◌, if◌then◌else◌, List, [], ◌∷◌, ◌++◌, length, refl, ap, ap₂, sym, ◌∙◌, subst, arith, inl, inr}
-use Rattle.std.specs.Prelude.{Option, Some, None, ◌⊎◌, nat_le, Contains}
+use Rattle.std.proofs.Common.{◌≡◌, ℕ, ◌+◌, ◌≤◌, Bool, true, false, ◌&&◌, if◌then◌else◌, List, [], ◌∷◌, ◌++◌, length, refl, ap, ap₂, sym, ◌∙◌, subst, arith, inl, inr, suc}
+use Rattle.std.specs.Prelude.{Option, Some, None, ◌⊎◌, nat_le, Contains, All}
 use Rattle.std.specs.List.{find, filter}
 use Rattle.std.specs.Ordering.{is_eq}
 use Rattle.std.specs.Cmp.{tied_itself}
 use Rattle.std.proofs.lemmas.Bool.Decides.{nat_tests}
-use Rattle.std.proofs.lemmas.List.Elements.{All-contains}
+use Rattle.std.proofs.lemmas.List.Elements.{All-contains, All-nil, All-cons, All-head, All-tail}
 use Rattle.std.proofs.lemmas.List.Folds.{Any-from_list_any, list_any-from_Any}
+use Rattle.std.proofs.lemmas.Option.{same_Some}
 use Rattle.lists.proofs.Algebra.{tied_by, has-Contains, Contains-has}
 use Rattle.flow_model.specs.declared.InnerSink.{InnerSink}
 use Rattle.flow_model.specs.declared.SinkByte.{SinkByte}
@@ -27,19 +28,17 @@ use Rattle.report_model.proofs.RowLemmas.{all_written, same_sinks}
 use Rattle.report_model.proofs.PointRows.{points_have_rows}
 use Rattle.path_find.specs.declared.Arrival.{Arrival}
 use Rattle.path_find.specs.Paths.{path}
-use Rattle.path_find.specs.FirstPair.{written_from, sink_of, PathTo, ended_in, path_to_sink, path_to, IsWrittenOnce, PathsAreListed}
-use Rattle.path_find.proofs.Iff.{one_path_is_origin}
+use Rattle.path_find.specs.FirstPair.{written_from, sink_of, PathTo, ended_in, path_to_sink, path_to, IsWrittenOnce, PathsAreListed, pair_or, first_pair, NoneIsListed, FirstPairHasPath}
+use Rattle.path_find.proofs.One.{one_path_is_origin}
+use Rattle.path_find.specs.declared.Pair.{Pair}
 
 -- ---- lists
 
 pub found_in : {X : Type 0} (t : X → Bool) (xs : List X) (y : X) → find t xs ≡ Some y → Some_in (λ x. x ≡ y) xs × (t y ≡ true)
 found_in t [] y e = absurd cc
 found_in {X} t (x ∷ xs) y e = by (found_in t xs y) (t x) refl e where
-  some_is : (a b : X) → Some a ≡ Some b → a ≡ b
-  some_is a b e = cc
-
   by : (find t xs ≡ Some y → Some_in (λ x. x ≡ y) xs × (t y ≡ true)) → (b : Bool) → t x ≡ b → (if b then Some x else find t xs) ≡ Some y → Some_in (λ z. z ≡ y) (x ∷ xs) × (t y ≡ true)
-  by ih true is e = let same = some_is x y e in (inl same, ap t (sym same) ∙ is)
+  by ih true is e = let same = same_Some x y e in (inl same, ap t (sym same) ∙ is)
   by ih false is e = let rest = ih e in (inr rest.0, rest.1)
 
 there_found : {X : Type 0} (t : X → Bool) (xs : List X) (y : X) → Some_in (λ x. x ≡ y) xs → t y ≡ true → (z : X) × (find t xs ≡ Some z)
@@ -161,9 +160,6 @@ told_is q trace name s p h =
 
 -- ---- both ways
 
-some_sink : (a b : Sink) → Some a ≡ Some b → a ≡ b
-some_sink a b e = cc
-
 was_chosen : (q : Query) (trace : List StepSeen) (t : ℕ) (x : Sink) (s : SourceByte) → Contains (origins (policy_of q) trace x.time x.loc) s → has_source q s ≡ true
 was_chosen q trace t x s c = (All-contains (WasRead (policy_of q) trace x.time) (origins (policy_of q) trace x.time x.loc) s (origins_were_read (policy_of q) trace x.time x.loc) c).is_introduced
 
@@ -203,9 +199,6 @@ module _ (q : Query) (trace : List StepSeen) (s : SourceByte) where
         (record { sink = y; arrivals = p.0 }, record { source = source; chosen = of.chosen; is_sink = there.1; is_path = is_path })
 
   module _ (p : InnerSink) where
-    inside : nat_le p.time (length trace) ≡ true → p.time ≤ length trace
-    inside e = grind (arith, nat_tests)
-
     at_listed : Told (At p) → Listed (At p)
     at_listed (to, h) = by (nat_le p.time (length trace)) refl h.is_sink where
       here : p.time ≤ length trace → point_sink p ≡ to.sink → Listed (At p)
@@ -218,7 +211,7 @@ module _ (q : Query) (trace : List StepSeen) (s : SourceByte) where
           )
 
       by : (c : Bool) → nat_le p.time (length trace) ≡ c → (if c then Some (point_sink p) else None) ≡ Some to.sink → Listed (At p)
-      by true e f = here (inside e) (some_sink (point_sink p) to.sink f)
+      by true e f = here (grind (arith, nat_tests)) (same_Some (point_sink p) to.sink f)
       by false e f = absurd cc
 
     at_told : Listed (At p) → Told (At p)
@@ -242,3 +235,41 @@ paths_are_listed q trace name s once = (λ p. listed name (p.0, is_told q trace 
   told : (name : SinkPoint) → Listed q trace s name → Told q trace s name
   told (Out b) h = out_told q trace s once b h
   told (At p) h = at_told q trace s p h
+
+-- ---- the first pair of rows
+
+-- one of the rows is of the pair's sink, and lists its source byte
+HasPair : (rs : List Row) (pair : Pair) → Type 0
+HasPair rs pair = (r : Row) × Contains rs r × (r.sink ≡ pair.sink) × Contains r.sources pair.source
+
+has_pair : (rs : List Row) (pair : Pair) → first_pair rs ≡ Some pair → HasPair rs pair
+unfolding HasPair
+has_pair [] pair e = absurd cc
+has_pair (r ∷ rs) pair e = by r.sources refl e (has_pair rs pair) where
+  by : (ss : List SourceByte) → r.sources ≡ ss → pair_or r.sink ss (first_pair rs) ≡ Some pair → (first_pair rs ≡ Some pair → HasPair rs pair) → HasPair (r ∷ rs) pair
+  by [] is e ih = let more = ih e in (more.0, (suc more.1.0, omega (arith, more.1.1), more.1.2), more.2, more.3)
+  by (s ∷ ss) is e ih =
+      let same = same_Some _ pair e in
+      (r, (0, omega arith, refl), ap (λ (p : Pair). p.sink) same, subst (λ (xs : List SourceByte). Contains xs pair.source) (sym is) (0, omega arith, ap (λ (p : Pair). p.source) same))
+
+pub first_pair_has_path : FirstPairHasPath
+unfolding HasPair
+first_pair_has_path q trace pair once e = (paths_are_listed q trace pair.sink pair.source once).1 (has_pair (rows q trace) pair e)
+
+-- ---- rows that list nothing
+
+none : (rs : List Row) → first_pair rs ≡ None → All (λ r. r.sources ≡ []) rs
+none [] e = All-nil (λ (r : Row). r.sources ≡ [])
+none (r ∷ rs) e = by (none rs) r.sources refl e where
+  by : (first_pair rs ≡ None → All (λ r. r.sources ≡ []) rs) → (ss : List SourceByte) → r.sources ≡ ss → pair_or r.sink ss (first_pair rs) ≡ None → All (λ r. r.sources ≡ []) (r ∷ rs)
+  by ih [] is e = All-cons (λ (r : Row). r.sources ≡ []) r rs is (ih e)
+  by ih (s ∷ ss) is e = absurd cc
+
+no_pair : (rs : List Row) → All (λ r. r.sources ≡ []) rs → first_pair rs ≡ None
+no_pair [] h = refl
+no_pair (r ∷ rs) h =
+    ap (λ (ss : List SourceByte). pair_or r.sink ss (first_pair rs)) (All-head (λ (r : Row). r.sources ≡ []) r rs h)
+    ∙ no_pair rs (All-tail (λ (r : Row). r.sources ≡ []) r rs h)
+
+pub none_is_listed : NoneIsListed
+none_is_listed rs = (none rs, no_pair rs)

@@ -2,6 +2,7 @@
 use Rattle.std.proofs.Common.{◌≡◌, ℕ, zero, suc, ◌+◌, ◌<◌, nat_lt, Bool, true, false, List, [], ◌∷◌, refl, ap, ap₂, sym, ◌∙◌, arith, ltb-true, ltb-false, inl, inr}
 use Rattle.std.specs.Prelude.{Option, Some, None, ◌⊎◌}
 use Rattle.std.specs.List.{range_with_len}
+use Rattle.std.proofs.lemmas.Option.{same_Some}
 use Rattle.isa.specs.declared.CallKind.{CallKind}
 use Rattle.isa.specs.declared.CallKind.TheVariants as kind
 use Rattle.flow_model.specs.declared.StepSeen.{StepSeen}
@@ -52,9 +53,6 @@ of_write y t (s ∷ ss) h = by (of_write y (t + 1) ss) (some-append (λ x. x ≡
       let later : t + suc w.step ≡ t + 1 + w.step = omega arith in
       record { step = suc w.step; call = w.call; at = w.at; write = w.write; byte = w.byte; inside = w.inside; is = ap (λ (n : ℕ). sink_at n w.call w.byte) later ∙ w.is }
 
-call_is : (a b : CallSeen) → Some a ≡ Some b → a ≡ b
-call_is a b e = cc
-
 byte_is : (a b : SinkByte) → Out a ≡ Out b → a ≡ b
 byte_is a b e = cc
 
@@ -85,6 +83,6 @@ written_once trace apart x y in_x in_y e =
     let a = of_write x 0 trace (some-Contains (written_from 0 trace) x in_x) in
     let b = of_write y 0 trace (some-Contains (written_from 0 trace) y in_y) in
     let same = same_write 0 trace x y a b apart e in
-    let call : a.call ≡ b.call = call_is a.call b.call (sym a.at ∙ ap (call_at trace) same.0 ∙ b.at) in
+    let call : a.call ≡ b.call = same_Some a.call b.call (sym a.at ∙ ap (call_at trace) same.0 ∙ b.at) in
     let byte : a.byte ≡ b.byte = omega (arith, same.1, ap (λ (c : CallSeen). c.offset) call) in
     sym a.is ∙ ap₂ (λ (n : ℕ) (c : CallSeen). sink_at (0 + n) c a.byte) same.0 call ∙ ap (sink_at (0 + b.step) b.call) byte ∙ b.is

@@ -18,8 +18,8 @@ use Rattle.flow_model.specs.Origins.{byte_at, step_at, origins}
 use Rattle.flow_model.proofs.Orders.{source_same}
 use Rattle.path_find.specs.declared.Arrival.{Arrival}
 use Rattle.path_find.specs.Paths.{puts, brings, IsLeft, IsLatest, IsRead, IsHop, IsPath, first_of, earlier_path, arrived, path_if_put, path_after, path}
-use Rattle.path_find.specs.PathLaws.{OnePathIsPath, BeginningIsPath, HopIsFromFirst, PathIsShort}
-use Rattle.path_find.proofs.Origins.{one_is}
+use Rattle.path_find.specs.PathLaws.{OnePathIsPath, BeginningIsPath, HopIsFromFirst, PathIsShort, PathsAreOrigins, OnePathIsOrigin}
+use Rattle.path_find.proofs.Origins.{one_is, path_had, contains_had, had_contains}
 
 -- the location whose path is the first that there is
 record FirstPath (f : Loc → Option (List Arrival)) (ls : List Loc) (p : List Arrival) : Type 0 where
@@ -195,3 +195,21 @@ short rule s trace (a ∷ b ∷ bs) t l h = omega (arith, h.0.before, short rule
 
 pub path_is_short : PathIsShort
 path_is_short rule s trace t l p h = short rule s trace p t l h
+
+-- ---- a path exists exactly where the source byte is among the origins
+
+there_is : {X : Type 0} (o : Option X) → is_some o ≡ true → (x : X) × (o ≡ Some x)
+there_is None e = absurd cc
+there_is (Some x) e = (x, refl)
+
+pub one_path_is_origin : OnePathIsOrigin
+one_path_is_origin policy s trace t l chosen = (
+  λ c. there_is (path policy.rule s trace t l) (one_is policy s chosen trace t l ∙ had_contains policy s chosen trace t l c),
+  λ p. contains_had policy s chosen trace t l (sym (one_is policy s chosen trace t l) ∙ ap is_some p.1),
+)
+
+pub paths_are_origins : PathsAreOrigins
+paths_are_origins policy s trace t l chosen = (
+  λ c. let p = (one_path_is_origin policy s trace t l chosen).0 c in (p.0, is_path policy.rule s trace p.0 t l p.1),
+  λ p. contains_had policy s chosen trace t l (path_had policy s chosen trace p.0 t l p.1),
+)

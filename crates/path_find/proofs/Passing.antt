@@ -2,6 +2,7 @@
 use Rattle.std.proofs.Common.{◌≡◌, ℕ, zero, suc, ◌+◌, ◌-◌, ◌<◌, List, [], ◌∷◌, ◌++◌, length, drop, get_or, map, reverse, refl, ap, sym, ◌∙◌, subst, arith}
 use Rattle.std.specs.Prelude.{Option, Some, None, IfSome}
 use Rattle.std.proofs.lemmas.List.{drop_more, map-append, reverse-append}
+use Rattle.std.proofs.lemmas.Option.{same_Some}
 use Rattle.log_model.specs.Logs.{steps}
 use Rattle.flow_model.specs.declared.Rule.{Rule}
 use Rattle.flow_model.specs.declared.SourceByte.{SourceByte}
@@ -87,13 +88,10 @@ one_told job xs m i d out n lt e =
 pub found_falls : (job : Job) (rule : Rule) (s : SourceByte) (o : Option Sink) (p : PathTo) → Some p ≡ path_to_sink rule s (trace_of job) o → AreBefore p.sink.time p.arrivals
 found_falls job rule s None p e = absurd cc
 found_falls job rule s (Some x) p e = by (path rule s (trace_of job) x.time x.loc) refl e where
-  some_is : (a b : PathTo) → Some a ≡ Some b → a ≡ b
-  some_is a b e = cc
-
   by : (q : Option (List Arrival)) → path rule s (trace_of job) x.time x.loc ≡ q → Some p ≡ ended_in x q → AreBefore p.sink.time p.arrivals
   by None is e = absurd cc
   by (Some arrivals) is e =
-      let same : p ≡ record { sink = x; arrivals = arrivals } = some_is p (record { sink = x; arrivals = arrivals }) e in
+      let same : p ≡ record { sink = x; arrivals = arrivals } = same_Some p (record { sink = x; arrivals = arrivals }) e in
       subst (λ (z : PathTo). AreBefore z.sink.time z.arrivals) (sym same) (falls rule s (trace_of job) arrivals x.time x.loc (is_path rule s (trace_of job) arrivals x.time x.loc is))
 
 -- so where a path was found

@@ -4,6 +4,7 @@ use Rattle.std.specs.Prelude.{Some, None}
 use Rattle.std.specs.List.{find, range_with_len}
 use Rattle.std.specs.Ordering.{is_eq}
 use Rattle.std.specs.Cmp.{tied_itself}
+use Rattle.std.proofs.lemmas.Bool.{false_from_ne_true}
 use Rattle.lists.proofs.Algebra.{tied_by}
 use Rattle.isa.specs.Machine.{wrap}
 use Rattle.flow_model.specs.declared.Loc.TheVariants.{Mem}
@@ -46,15 +47,11 @@ is_named_at : (t : ℕ) (call : CallSeen) (b : SinkByte) (j : ℕ) → b.channel
 is_named_at t call b j e f =
     ap (λ (x : SinkByte). is_eq (point_cmp (Out b) (Out x))) (sym (byte_is b call.channel (call.offset + j) e f)) ∙ ap is_eq (tied_itself point_total (Out b))
 
-not_true : (b : Bool) → (b ≡ true → ⊥) → b ≡ false
-not_true true h = absurd (h refl)
-not_true false h = refl
-
 -- where no byte of the write has the name
 pub none_written : (t : ℕ) (call : CallSeen) (b : SinkByte) → ((j : ℕ) → j < call.length → b.channel ≡ call.channel → b.offset ≡ call.offset + j → ⊥)
     → find (is_named (Out b)) (map (sink_at t call) (range_with_len 0 call.length)) ≡ None
 none_written t call b h = none_made (is_named (Out b)) (sink_at t call) 0 call.length
-    (λ j low high. not_true _ (λ e. let both = named_is t call b j e in h j (omega arith) both.0 both.1))
+    (λ j low high. false_from_ne_true _ (λ e. let both = named_is t call b j e in h j (omega arith) both.0 both.1))
 
 -- where byte i has it
 pub one_written : (t : ℕ) (call : CallSeen) (b : SinkByte) (i : ℕ) → i < call.length → b.channel ≡ call.channel → b.offset ≡ call.offset + i → call.place + call.length ≤ 2 ^ 32

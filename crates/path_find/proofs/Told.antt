@@ -1,72 +1,44 @@
 -- Where a path is told.
-use Rattle.std.proofs.Common.{◌≡◌, ℕ, Bool, true, false, ◌&&◌, if◌then◌else◌, List, [], ◌∷◌, length, map, refl, ap, ap₂, sym, subst, ◌∙◌, arith}
-use Rattle.std.specs.Prelude.{Option, Some, None, All, Contains, reverse}
+use Rattle.std.proofs.Common.{◌≡◌, ℕ, Bool, true, ◌&&◌, if◌then◌else◌, List, [], ◌∷◌, length, map, refl, ap, ap₂, sym, subst, ◌∙◌, arith}
+use Rattle.std.specs.Prelude.{◌↔◌, Option, Some, None, All, Contains, reverse}
 use Rattle.std.proofs.lemmas.List.{length-map, length-reverse}
 use Rattle.std.proofs.lemmas.List.Elements.{All-contains}
 use Rattle.isa.specs.Machine.{State}
 use Rattle.log_model.specs.Logs.{Log}
 use Rattle.lists.proofs.Algebra.{Contains-has}
 use Rattle.flow_model.specs.declared.InnerSink.{InnerSink}
-use Rattle.flow_model.specs.declared.Rule.{Rule}
 use Rattle.flow_model.specs.declared.SinkPoint.{SinkPoint}
 use Rattle.flow_model.specs.declared.SinkPoint.TheVariants.{Out, At}
 use Rattle.flow_model.specs.declared.SourceByte.{SourceByte}
 use Rattle.flow_model.specs.declared.StepSeen.{StepSeen}
 use Rattle.flow_model.specs.Ranges.{IsLocation}
 use Rattle.flow_model.proofs.Orders.{inner_total, inner_same}
-use Rattle.report_model.specs.Query.{Query, AreLocated, has_source, has_sink}
-use Rattle.report_model.specs.Rows.{Sink, Row, rows}
+use Rattle.report_model.specs.Query.{Query, AreLocated, has_sink}
+use Rattle.report_model.specs.Rows.{Row, rows}
 use Rattle.replay_model.specs.Run.{trace}
 use Rattle.replay_model.proofs.Offsets.{writes_apart}
 use Rattle.replayer.specs.Jobs.{Job}
 use Rattle.path_find.specs.declared.Arrival.{Arrival}
 use Rattle.path_find.specs.declared.Pair.{Pair}
-use Rattle.path_find.specs.Paths.{path}
-use Rattle.path_find.specs.FirstPair.{PathTo, sink_of, ended_in, path_to_sink, path_to, first_pair, NoneIsListed, FirstPairHasPath}
+use Rattle.path_find.specs.FirstPair.{PathTo, sink_of, ended_in, path_to_sink, path_to, first_pair, Names, NoneIsListed, FirstPairHasPath}
 use Rattle.path_find.proofs.One.{is_path}
 use Rattle.path_find.specs.declared.writing.Stop.{Stop}
 use Rattle.path_find.specs.declared.writing.End.{End}
 use Rattle.path_find.specs.Text.{no_path_text, path_text}
-use Rattle.path_find.specs.Sinks.{HasLocation}
+use Rattle.path_find.specs.Sinks.{HasLocation, IsLocated}
 use Rattle.path_find.specs.Stops.{stop_at}
 use Rattle.path_find.specs.Answer.{end_of, found_report, found_report_or, pair_report, path_report}
 use Rattle.path_find.specs.AnswerLaws.{NoPathIsToldOfNone, NamedPairIsTold, FirstPairIsLocated}
 use Rattle.path_find.proofs.Once.{written_once}
-use Rattle.path_find.proofs.Listed.{paths_are_listed}
+use Rattle.path_find.proofs.Listed.{IsTold, is_told, paths_are_listed}
 
 -- ---- a path that is told
-
--- the query chooses both, and there is a path
-record IsTold (q : Query) (steps : List StepSeen) (pair : Pair) (p : PathTo) : Type 0 where
-  source : has_source q pair.source ≡ true
-  chosen : has_sink q pair.sink ≡ true
-  is_path : path_to_sink q.rule pair.source steps (sink_of steps pair.sink) ≡ Some p
-
-is_told : (q : Query) (steps : List StepSeen) (pair : Pair) (p : PathTo) → path_to q steps pair.sink pair.source ≡ Some p → IsTold q steps pair p
-is_told q steps pair p e = by (has_source q pair.source) (has_sink q pair.sink) refl refl e where
-  by : (a b : Bool) → has_source q pair.source ≡ a → has_sink q pair.sink ≡ b → (if a && b then path_to_sink q.rule pair.source steps (sink_of steps pair.sink) else None) ≡ Some p → IsTold q steps pair p
-  by true true has is e = record { source = has; chosen = is; is_path = e }
-  by true false has is e = absurd cc
-  by false b has is e = absurd cc
-
--- it has an arrival
-has_arrival : (rule : Rule) (s : SourceByte) (steps : List StepSeen) (o : Option Sink) (p : PathTo) → path_to_sink rule s steps o ≡ Some p → p.arrivals ≡ [] → ⊥
-has_arrival rule s steps None p e none = cc
-has_arrival rule s steps (Some x) p e none = by (path rule s steps x.time x.loc) refl e where
-  some_is : (a b : PathTo) → Some a ≡ Some b → a ≡ b
-  some_is a b e = cc
-
-  by : (o : Option (List Arrival)) → path rule s steps x.time x.loc ≡ o → ended_in x o ≡ Some p → ⊥
-  by None is e = cc
-  by (Some arrivals) is e =
-      let same : arrivals ≡ [] = ap (λ (z : PathTo). z.arrivals) (some_is (record { sink = x; arrivals = arrivals }) p e) ∙ none in
-      is_path rule s steps [] x.time x.loc (is ∙ ap Some same)
 
 first_code : List ℕ → ℕ
 first_code [] = 0
 first_code (c ∷ cs) = c
 
--- so its text begins with an `r`, and is no `end 0`
+-- the text of a path that has an arrival begins with an `r`, and is no `end 0`
 text_apart : (s : SourceByte) (e : End) (stops : List Stop) → (stops ≡ [] → ⊥) → path_text s e stops ≡ no_path_text → ⊥
 unfolding first_code
 text_apart s e [] some same = some refl
@@ -88,37 +60,35 @@ chosen_is_located q located (At p) c = All-contains (λ (x : InnerSink). IsLocat
 no_member : (s : SourceByte) → Contains [] s → ⊥
 no_member s h = absurd (omega (arith, h.1))
 
-module _ (none_is_listed : NoneIsListed) (first_has_path : FirstPairHasPath) where
-  told_of : (state : State) (log : Log) (q : Query) (pair : Pair) → first_pair (rows q (trace state log)) ≡ Some pair
-      → (p : PathTo) × IsTold q (trace state log) pair p
-  told_of state log q pair e =
-      let p = first_has_path q (trace state log) pair (written_once (trace state log) (writes_apart state log)) e in
-      (p.0, is_told q (trace state log) pair p.0 p.1)
+module _ (none_is_listed : NoneIsListed) (first_has_path : FirstPairHasPath) (state : State) (log : Log) (q : Query) where
+  abbrev steps : List StepSeen
+  steps = trace state log
 
-  pub no_path_is_told_of_none : NoPathIsToldOfNone
-  no_path_is_told_of_none state log q = (
-    λ e. to e (first_pair (rows q (trace state log))) refl,
-    λ none. ap (pair_report (record { start = state; log = log }) q.rule) ((none_is_listed (rows q (trace state log))).1 none),
-  ) where
-    to : path_report state log q ≡ no_path_text → (o : Option Pair) → first_pair (rows q (trace state log)) ≡ o → All (λ r. r.sources ≡ []) (rows q (trace state log))
-    to e None is = (none_is_listed (rows q (trace state log))).0 is
-    to e (Some pair) is =
-        let t = told_of state log q pair is in
-        let text : found_report (record { start = state; log = log }) pair.source t.0 ≡ no_path_text =
-        sym (ap (pair_report (record { start = state; log = log }) q.rule) is ∙ ap (found_report_or (record { start = state; log = log }) pair.source) t.1.is_path) ∙ e in
-        absurd (found_apart (record { start = state; log = log }) pair.source t.0 (has_arrival q.rule pair.source (trace state log) (sink_of (trace state log) pair.sink) t.0 t.1.is_path) text)
+  abbrev job : Job
+  job = record { start = state; log = log }
 
-  pub first_pair_is_located : FirstPairIsLocated
-  first_pair_is_located state log q pair located e = chosen_is_located q located pair.sink (told_of state log q pair e).1.chosen
+  told_of : (pair : Pair) → first_pair (rows q steps) ≡ Some pair → (p : PathTo) × IsTold q steps pair.sink pair.source p
+  told_of pair e = let p = first_has_path q steps pair (written_once steps (writes_apart state log)) e in (p.0, is_told q steps pair.sink pair.source p.0 p.1)
 
-  pub named_pair_is_told : NamedPairIsTold
-  named_pair_is_told state log q pair names = by (first_pair (rows q (trace state log))) refl where
-    steps : List StepSeen
-    steps = trace state log
+  -- the path that is told has an arrival
+  not_none : (pair : Pair) → first_pair (rows q steps) ≡ Some pair → path_report state log q ≡ no_path_text → ⊥
+  not_none pair is e =
+      let p = (told_of pair is).0 in
+      let t = (told_of pair is).1 in
+      found_apart job pair.source p (λ none. is_path q.rule pair.source steps [] p.sink.time p.sink.loc (t.is_path ∙ ap Some none))
+      (sym (ap (pair_report job q.rule) is ∙ ap (found_report_or job pair.source) (ap (path_to_sink q.rule pair.source steps) t.is_sink ∙ ap (ended_in p.sink) t.is_path)) ∙ e)
 
-    job : Job
-    job = record { start = state; log = log }
+  none_told : (path_report state log q ≡ no_path_text) ↔ All (λ r. r.sources ≡ []) (rows q steps)
+  none_told = (λ e. to e (first_pair (rows q steps)) refl, λ none. ap (pair_report job q.rule) ((none_is_listed (rows q steps)).1 none)) where
+    to : path_report state log q ≡ no_path_text → (o : Option Pair) → first_pair (rows q steps) ≡ o → All (λ r. r.sources ≡ []) (rows q steps)
+    to e None is = (none_is_listed (rows q steps)).0 is
+    to e (Some pair) is = absurd (not_none pair is e)
 
+  first_located : (pair : Pair) → AreLocated q.points → first_pair (rows q steps) ≡ Some pair → IsLocated pair
+  first_located pair located e = chosen_is_located q located pair.sink (told_of pair e).1.chosen
+
+  named_told : (pair : Pair) → Names q pair → path_report state log q ≡ pair_report job q.rule (Some pair)
+  named_told pair names = by (first_pair (rows q steps)) refl where
     -- a path that the query's pair has
     told : Option PathTo
     told = path_to_sink q.rule pair.source steps (sink_of steps pair.sink)
@@ -138,6 +108,16 @@ module _ (none_is_listed : NoneIsListed) (first_has_path : FirstPairHasPath) whe
         let none = has_none ((none_is_listed (rows q steps)).0 e) told refl in
         ap (pair_report job q.rule) e ∙ sym (ap (found_report_or job pair.source) none)
     by (Some other) e =
-        let t = (told_of state log q other e).1 in
+        let t = (told_of other e).1 in
         let same : other ≡ pair = ap₂ (λ (n : SinkPoint) (s : SourceByte). record { sink = n; source = s }) (names.sink.alone other.sink t.chosen) (names.source.alone other.source t.source) in
         ap (pair_report job q.rule) (e ∙ ap Some same)
+
+module _ (none_is_listed : NoneIsListed) (first_has_path : FirstPairHasPath) where
+  pub no_path_is_told_of_none : NoPathIsToldOfNone
+  no_path_is_told_of_none = none_told none_is_listed first_has_path
+
+  pub first_pair_is_located : FirstPairIsLocated
+  first_pair_is_located = first_located none_is_listed first_has_path
+
+  pub named_pair_is_told : NamedPairIsTold
+  named_pair_is_told = named_told none_is_listed first_has_path

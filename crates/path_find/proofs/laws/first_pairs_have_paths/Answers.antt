@@ -1,8 +1,8 @@
-use Rattle.path_find.proofs.FirstPairs as pairs
+use Rattle.path_find.proofs.Listed as listed
 use Rattle.path_find.proofs.laws.first_pairs_have_paths.Goals as goal
 
 pub returns-clause-none : goal.returns-clause-none
-returns-clause-none c = pairs.none_is_listed
+returns-clause-none c = listed.none_is_listed
 
 pub returns-clause-path : goal.returns-clause-path
-returns-clause-path c = pairs.first_pair_has_path
+returns-clause-path c = listed.first_pair_has_path
