@@ -1,17 +1,19 @@
 -- Groups with one decision more.
 use Rattle.std.proofs.Common.{◌≡◌, ℕ, ◌+◌, Bool, true, false, cond, List, [], ◌∷◌, ◌++◌, map, length, length-append, refl, ap, ap₂, sym, ◌∙◌, subst, arith, append-nil}
-use Rattle.std.specs.Prelude.{◌||◌, Option, Some, None}
+use Rattle.std.specs.Prelude.{◌||◌, Option, Some, None, All}
 use Rattle.std.specs.BTreeMap.{BTreeMap, get, insert_entry}
-use Rattle.std.specs.Cmp.{IsTotalOrder, tied_itself, tied_back}
+use Rattle.std.specs.Cmp.{IsTotalOrder, tied_itself}
 use Rattle.std.specs.FinMap.{IsAntisymmetric}
 use Rattle.std.specs.Ordering.{is_eq, eq_by_cmp, match_ordering}
 use Rattle.std.specs.declared.cmp.Ordering.{Ordering}
 use Rattle.std.specs.declared.cmp.Ordering.TheVariants.{Less, Equal, Greater}
-use Rattle.std.proofs.lemmas.List.{map-append}
-use Rattle.std.proofs.lemmas.List.Elements.{filter-append}
+use Rattle.std.proofs.lemmas.Cmp.{eq_by_cmp_equiv}
+use Rattle.std.proofs.lemmas.List.{map-append, length-map}
+use Rattle.std.proofs.lemmas.List.Elements.{filter-append, recursion_from_All}
 use Rattle.std.proofs.lemmas.List.Folds.{list_any-append}
+use Rattle.std.proofs.lemmas.Option.{same_Some}
 use Rattle.lists.specs.Sets.{union, inserted, placed, set_of, has, Ascends}
-use Rattle.lists.proofs.Algebra.{tied_by, less_turned, greater_turned, has-inserted, has-set_of, Ascends-inserted, Ascends-set_of, same_list, union_assoc, union-nil}
+use Rattle.lists.proofs.Algebra.{tied_by, has-inserted, has-set_of, Ascends-inserted, Ascends-set_of, same_list, union_assoc, union-nil}
 use Rattle.flow_model.specs.declared.Loc.{Loc}
 use Rattle.flow_model.specs.Orders.{source_cmp}
 use Rattle.flow_model.proofs.Orders.{source_total, source_same}
@@ -31,6 +33,11 @@ use Rattle.source_labels.specs.Words.{label_words}
 use Rattle.source_labels.specs.Laws.{label_laws}
 use Rattle.decision_find.specs.Groups.{IsGroup, IsGroupOf, AreGroups, HaveLabels, Joins, Grows}
 use Rattle.decision_find.specs.Looks.{decision_of}
+use Rattle.std.specs.List.{flat_map, AllByRecursion}
+use Rattle.isa.specs.declared.Instr.{Instr}
+use Rattle.flow_model.specs.declared.SourceByte.{SourceByte}
+use Rattle.printed_names.specs.Lines.{lines_end}
+use Rattle.decision_find.specs.Text.{line_text, place_line, decisions_text}
 
 -- ---- the places of one decision more
 
@@ -77,15 +84,6 @@ pub sources_pushed : (ds : List Decision) (d : Decision) → Ascends source_cmp 
 sources_pushed [] d h = union-nil source_total d.sources h
 sources_pushed (e ∷ ds) d h =
     ap (union source_cmp e.sources) (sources_pushed ds d h) ∙ union_assoc source_total source_same e.sources (sources_of ds) d.sources (sources_ascend ds) h
-
--- two places tie whichever comes first
-flips : (p q : Place) → eq_by_cmp place_cmp p q ≡ eq_by_cmp place_cmp q p
-flips p q = by (place_cmp p q) refl
-  where
-    by : (r : Ordering) → place_cmp p q ≡ r → is_eq (place_cmp p q) ≡ is_eq (place_cmp q p)
-    by Less e = ap is_eq e ∙ sym (ap is_eq (less_turned place_total p q e))
-    by Equal e = ap is_eq e ∙ sym (ap is_eq (tied_back place_total p q e))
-    by Greater e = ap is_eq e ∙ sym (ap is_eq (greater_turned place_total p q e))
 
 -- ---- a group of one decision more
 
@@ -162,14 +160,11 @@ module _ (old new : SourceLabels) (k : KeepsLabels label_words old new) (look : 
   made_stands (Some h) g is = is.sources.stands
 
   module _ (before after : BTreeMap Place Group) (g : Group) (made : Grows old (get place_cmp before (place_of d)) look label new g) (put : IsPut (place_of d) g before after) where
-    same_group : (h j : Group) → Some h ≡ Some j → h ≡ j
-    same_group h j e = cc
-
     pub labels_added : HaveLabels old (record { by_place = before }) → HaveLabels new (record { by_place = after })
     labels_added h = λ p j e. by p j (eq_by_cmp place_cmp (place_of d) p) (sym (put.gets p) ∙ e)
       where
         by : (p : Place) (j : Group) (b : Bool) → cond b (Some g) (get place_cmp before p) ≡ Some j → label_words.stands new j.label
-        by p j true e = subst (λ (x : Group). label_words.stands new x.label) (same_group g j e) (made_stands (get place_cmp before (place_of d)) g made)
+        by p j true e = subst (λ (x : Group). label_words.stands new x.label) (same_Some g j e) (made_stands (get place_cmp before (place_of d)) g made)
         by p j false e = (k j.label (h p j e)).stands
 
     joined_is : (ds : List Decision) (o : Option Group) → IsGroup old ds o → Grows old o look label new g → IsGroup new (ds ++ d ∷ []) (Some g)
@@ -194,7 +189,50 @@ module _ (old new : SourceLabels) (k : KeepsLabels label_words old new) (look : 
             subst (IsGroup new (decided_there p (ds ++ d ∷ []))) (sym found)
             (subst (λ (xs : List Decision). IsGroup new xs (Some g)) (sym (there_too p ds d at)) (joined_is (decided_there p ds) (get place_cmp before p) was is))
         each p false e =
-            let at : is_at p d ≡ false = flips p (place_of d) ∙ e in
+            let at : is_at p d ≡ false = (eq_by_cmp_equiv place_total).symm p (place_of d) ∙ e in
             let found : get place_cmp after p ≡ get place_cmp before p = put.gets p ∙ ap (λ (b : Bool). cond b (Some g) (get place_cmp before p)) e in
             subst (IsGroup new (decided_there p (ds ++ d ∷ []))) (sym found)
             (subst (λ (xs : List Decision). IsGroup new xs (get place_cmp before p)) (sym (not_there p ds d at)) (is_kept old new k (decided_there p ds) (get place_cmp before p) (h.each p)))
+
+-- ---- the lines of groups are those of their decisions
+
+-- the derived order is total
+pub compared_total : IsTotalOrder place_compared
+compared_total = subst (λ (c : Place → Place → Ordering). IsTotalOrder c) place_order_is place_total
+
+abbrev pub entry_line : SourceLabels → Place × Group → List ℕ
+entry_line labels e = line_text e.0 e.1.instr e.1.count e.1.first (label_words.means labels e.1.label)
+
+-- a line for each of these groups
+abbrev pub lines_of : SourceLabels → List (Place × Group) → List ℕ
+lines_of labels es = flat_map (entry_line labels) es
+
+group_line : (labels : SourceLabels) (p : Place) (ds : List Decision) (g : Group) → IsGroup labels ds (Some g) → entry_line labels (p, g) ≡ place_line p ds
+group_line labels p [] g h = absurd h
+group_line labels p (d ∷ ds) g h =
+    let bs = label_words.means labels g.label in
+    ap (λ (i : Option Instr). line_text p i g.count g.first bs) h.instr ∙ ap (λ (n : ℕ). line_text p d.instr n g.first bs) h.count
+    ∙ ap₂ (λ (t : ℕ) (cs : List SourceByte). line_text p d.instr (length (d ∷ ds)) t cs) h.first h.sources.means
+
+lines_are : (labels : SourceLabels) (ds : List Decision) (es : List (Place × Group)) → AllByRecursion (λ e. IsGroup labels (decided_there e.0 ds) (Some e.1)) es
+    → lines_of labels es ≡ flat_map (λ p. place_line p (decided_there p ds)) (map (λ e. e.0) es)
+lines_are labels ds [] h = refl
+lines_are labels ds (e ∷ es) h =
+    ap₂ (λ (x y : List ℕ). x ++ y) (group_line labels e.0 (decided_there e.0 ds) e.1 h.0) (lines_are labels ds es h.1)
+
+each_group : (labels : SourceLabels) (ds : List Decision) (m : BTreeMap Place Group) → ((p : Place) → IsGroup labels (decided_there p ds) (get place_cmp m p))
+    → (es : List (Place × Group)) → AllByRecursion (λ e. get place_compared m e.0 ≡ Some e.1) es → AllByRecursion (λ e. IsGroup labels (decided_there e.0 ds) (Some e.1)) es
+each_group labels ds m h [] a = tt
+each_group labels ds m h (e ∷ es) a =
+    (subst (IsGroup labels (decided_there e.0 ds)) (found_at m e.0 (Some e.1) (sym a.0)) (h e.0), each_group labels ds m h es a.1)
+
+-- the text of all groups
+pub text_is : (labels : SourceLabels) (ds : List Decision) (groups : Groups) (out : List ℕ) (n : ℕ) → AreGroups labels ds groups
+    → All (λ e. get place_compared groups.by_place e.0 ≡ Some e.1) groups.by_place.entries → out ≡ lines_of labels groups.by_place.entries ++ lines_end n
+    → n ≡ length groups.by_place.entries → out ≡ decisions_text ds
+text_is labels ds groups out n h found is long =
+    let es = groups.by_place.entries in
+    let found_each = recursion_from_All (λ (e : Place × Group). get place_compared groups.by_place e.0 ≡ Some e.1) es found in
+    let lines = lines_are labels ds es (each_group labels ds groups.by_place h.each es found_each) ∙ ap (flat_map (λ p. place_line p (decided_there p ds))) h.keys in
+    let counted : n ≡ length (places ds) = long ∙ sym (length-map es (λ (e : Place × Group). e.0)) ∙ ap length h.keys in
+    is ∙ ap₂ (λ (x : List ℕ) (k : ℕ). x ++ lines_end k) lines counted

@@ -1,24 +1,31 @@
 -- The lines of a text of decisions: one for each place, which tells the decisions there.
-use Rattle.std.proofs.Common.{◌≡◌, ℕ, suc, ◌+◌, Bool, true, false, if◌then◌else◌, List, [], ◌∷◌, ◌++◌, map, length, refl, ap, ap₂, sym, ◌∙◌, subst, arith, inl, inr}
+use Rattle.std.proofs.Common.{◌≡◌, ℕ, suc, ◌+◌, Bool, true, false, if◌then◌else◌, List, [], ◌∷◌, ◌++◌, map, length, refl, ap, ap₂, sym, ◌∙◌, subst, arith, inl, inr, zero, ◌<◌}
 use Rattle.std.specs.Prelude.{◌⊎◌, ◌||◌, ◌↔◌, Contains}
-use Rattle.std.specs.List.{flat_map, sum_by, AllByRecursion}
+use Rattle.std.specs.List.{flat_map, list_any, sum_by, AllByRecursion}
 use Rattle.std.specs.Ordering.{is_eq, eq_by_cmp}
 use Rattle.std.specs.Cmp.{tied_itself}
+use Rattle.std.proofs.lemmas.Bool.{or_cases}
 use Rattle.std.proofs.lemmas.List.Elements.{All-from_recursion}
+use Rattle.std.proofs.lemmas.List.Folds.{Any-from_list_any, list_any_at}
 use Rattle.std.proofs.lemmas.List.Recursion.{is_sum_by}
 use Rattle.lists.specs.Sets.{has, Ascends}
 use Rattle.lists.proofs.Algebra.{tied_by, has-Contains, Contains-has, has-set_of, has-union, Ascends-set_of, Ascends-union, IsBelow-tied, none_below}
+use Rattle.lists.proofs.Tests.{true-false}
 use Rattle.flow_model.specs.declared.SourceByte.{SourceByte}
 use Rattle.flow_model.specs.Orders.{source_cmp}
 use Rattle.flow_model.proofs.Orders.{source_total, source_same}
-use Rattle.report_model.proofs.Members.{Some_in, Any-some, some-Contains, Contains-some, some-each, some-gives, filter-some, some-filter, map-some, some-map}
+use Rattle.report_model.proofs.Members.{Some_in, Any-some, some-Contains, Contains-some, some-each, some-gives, filter-some, some-filter, map-some, some-map, some-left, some-right, some-append}
 use Rattle.printed_names.specs.Lines.{lines_end}
 use Rattle.decision_find.specs.declared.Place.{Place}
-use Rattle.decision_find.specs.Decisions.{Decision}
+use Rattle.decision_find.specs.Decisions.{Decision, decision, decisions, is_some_byte, decided_at, decided_from, decided, moments_seen}
 use Rattle.decision_find.specs.Places.{place_cmp, place_of, places, is_at, decided_there, sources_of}
 use Rattle.decision_find.specs.Text.{place_line}
-use Rattle.decision_find.specs.TextLaws.{PlaceLine, place_line_text, IsLineOf, TextsTellDecisions, DecidedThereAre}
+use Rattle.decision_find.specs.TextLaws.{PlaceLine, place_line_text, IsLineOf, TextsTellDecisions, DecidedThereAre, IsDecision, DecidedAreDecisions}
 use Rattle.decision_find.proofs.Orders.{place_total, place_same}
+use Rattle.flow_model.specs.declared.Loc.{Loc}
+use Rattle.flow_model.specs.declared.StepSeen.{StepSeen}
+use Rattle.flow_model.specs.Origins.{Policy}
+use Rattle.replay_model.specs.Run.{Moment, start, advance, moment_after, trace}
 
 -- ---- the decisions of a place
 
@@ -63,26 +70,9 @@ with_place ds p h = subst (Contains (places ds)) h.2 (Contains-has place_total p
 
 -- ---- the source bytes of some decisions
 
-or_cases : (a b : Bool) → (a || b) ≡ true → (a ≡ true) ⊎ (b ≡ true)
-or_cases true b e = inl refl
-or_cases false b e = inr e
-
-or_second : (a : Bool) → (a || true) ≡ true
-or_second true = refl
-or_second false = refl
-
-from_one : (ds : List Decision) (b : SourceByte) → has source_cmp b (sources_of ds) ≡ true → Some_in (λ d. Contains d.sources b) ds
-from_one [] b e = absurd cc
-from_one (d ∷ ds) b e = by (from_one ds b) (or_cases (has source_cmp b d.sources) (has source_cmp b (sources_of ds)) (sym (has-union source_total d.sources (sources_of ds) b) ∙ e)) where
-  by : (has source_cmp b (sources_of ds) ≡ true → Some_in (λ d. Contains d.sources b) ds)
-      → (has source_cmp b d.sources ≡ true) ⊎ (has source_cmp b (sources_of ds) ≡ true) → Some_in (λ d. Contains d.sources b) (d ∷ ds)
-  by ih (inl here) = inl (Contains-has source_total source_same d.sources b here)
-  by ih (inr later) = inr (ih later)
-
-of_one : (ds : List Decision) (b : SourceByte) → Some_in (λ d. Contains d.sources b) ds → has source_cmp b (sources_of ds) ≡ true
-of_one [] b h = absurd h
-of_one (d ∷ ds) b (inl c) = has-union source_total d.sources (sources_of ds) b ∙ ap (λ (x : Bool). x || has source_cmp b (sources_of ds)) (has-Contains source_total d.sources b c)
-of_one (d ∷ ds) b (inr h) = has-union source_total d.sources (sources_of ds) b ∙ ap (λ (x : Bool). has source_cmp b d.sources || x) (of_one ds b h) ∙ or_second (has source_cmp b d.sources)
+has_sources : (ds : List Decision) (b : SourceByte) → has source_cmp b (sources_of ds) ≡ list_any (λ d. has source_cmp b d.sources) ds
+has_sources [] b = refl
+has_sources (d ∷ ds) b = has-union source_total d.sources (sources_of ds) b ∙ ap (λ (x : Bool). has source_cmp b d.sources || x) (has_sources ds b)
 
 abbrev HasSource : List Decision → SourceByte → Type 0
 HasSource ds b = (d : Decision) × Contains ds d × Contains d.sources b
@@ -90,12 +80,14 @@ HasSource ds b = (d : Decision) × Contains ds d × Contains d.sources b
 sources_are : (ds : List Decision) (b : SourceByte) → Contains (sources_of ds) b ↔ HasSource ds b
 sources_are ds b = (to, from) where
   to : Contains (sources_of ds) b → HasSource ds b
-  to c = let one = Any-some (λ d. Contains d.sources b) ds (from_one ds b (has-Contains source_total (sources_of ds) b c)) in (one.1, (one.0, one.2, one.3), one.4)
+  to c =
+      let one = Any-from_list_any (λ d. has source_cmp b d.sources) ds (sym (has_sources ds b) ∙ has-Contains source_total (sources_of ds) b c) in
+      (one.1, (one.0, one.2, one.3), Contains-has source_total source_same one.1.sources b one.4)
 
   from : HasSource ds b → Contains (sources_of ds) b
-  from h =
-      Contains-has source_total source_same (sources_of ds) b
-      (of_one ds b (some-each (λ d. d ≡ h.0) (λ d. Contains d.sources b) (λ d e. subst (λ (x : Decision). Contains x.sources b) (sym e) h.2) ds (some-Contains ds h.0 h.1)))
+  from (d, c, among) =
+      Contains-has source_total source_same (sources_of ds) b (has_sources ds b ∙ list_any_at (λ d. has source_cmp b d.sources) ds c.0 d c.1
+      (ap (λ (x : Decision). has source_cmp b x.sources) c.2 ∙ has-Contains source_total d.sources b among))
 
 pub sources_ascend : (ds : List Decision) → Ascends source_cmp (sources_of ds)
 sources_ascend [] = tt
@@ -123,10 +115,7 @@ not_at d (p ∷ ps) e = by (not_at d ps) (is_at p d) refl where
   by : (has place_cmp (place_of d) ps ≡ false → total (λ p. one_if (is_at p d)) ps ≡ 0) → (b : Bool) → is_at p d ≡ b → one_if b + total (λ p. one_if (is_at p d)) ps ≡ 0
   by ih true is =
       let same : eq_by_cmp place_cmp (place_of d) p ≡ true = ap (eq_by_cmp place_cmp (place_of d)) (sym (at_place p d is)) ∙ ap is_eq (tied_itself place_total (place_of d)) in
-      absurd (no (sym (ap (λ (x : Bool). x || has place_cmp (place_of d) ps) same) ∙ e))
-    where
-      no : true ≡ false → ⊥
-      no e = cc
+      true-false (sym (ap (λ (x : Bool). x || has place_cmp (place_of d) ps) same) ∙ e)
   by ih false is = let none = ih (rest (eq_by_cmp place_cmp (place_of d) p) (has place_cmp (place_of d) ps) e) in omega (arith, none)
     where
       rest : (a b : Bool) → (a || b) ≡ false → b ≡ false
@@ -268,3 +257,60 @@ texts_tell_decisions ds = record {
         let there = some-Contains (map (λ (x : PlaceLine). x.place) lines) p (subst (λ (qs : List Place). Contains qs p) (sym named) (with_place ds p h)) in
         let one = Any-some (λ x. x.place ≡ p) lines (map-some (λ q. q ≡ p) (λ (x : PlaceLine). x.place) lines there) in
         (one.1, (one.0, one.2, one.3), one.4)
+
+-- ---- the decisions of a run, moment by moment
+
+module _ (policy : Policy) (trace : List StepSeen) (d : Decision) where
+  -- d is the decision of a location that decides at the moment
+  record IsAt (m : Moment) : Type 0 where
+    loc : Loc
+    decides : Contains (decisions policy.rule m.state) loc
+    is : d ≡ decision policy trace m loc
+    has_source : is_some_byte d.sources ≡ true
+
+  at_moment : (m : Moment) → Some_in (λ x. x ≡ d) (decided_at policy trace m) → IsAt m
+  at_moment m h =
+      let kept = filter-some (λ x. x ≡ d) (λ x. is_some_byte x.sources) (map (decision policy trace m) (decisions policy.rule m.state)) h in
+      let of = map-some _ (decision policy trace m) (decisions policy.rule m.state) kept in
+      let one = Any-some (λ l. (is_some_byte (decision policy trace m l).sources ≡ true) × (decision policy trace m l ≡ d)) (decisions policy.rule m.state) of in
+      record { loc = one.1; decides = (one.0, one.2, one.3); is = sym one.4.1; has_source = ap (λ (x : Decision). is_some_byte x.sources) (sym one.4.1) ∙ one.4.0 }
+
+  listed_at : (m : Moment) → IsAt m → Some_in (λ x. x ≡ d) (decided_at policy trace m)
+  listed_at m h =
+      let there = some-Contains (decisions policy.rule m.state) h.loc h.decides in
+      let made = some-each (λ l. l ≡ h.loc) (λ l. (is_some_byte (decision policy trace m l).sources ≡ true) × (decision policy trace m l ≡ d))
+      (λ l e. let same : decision policy trace m l ≡ d = ap (decision policy trace m) e ∙ sym h.is in (ap (λ (x : Decision). is_some_byte x.sources) same ∙ h.has_source, same))
+      (decisions policy.rule m.state) there in
+      some-filter (λ x. x ≡ d) (λ x. is_some_byte x.sources) (map (decision policy trace m) (decisions policy.rule m.state))
+      (some-map (λ x. (is_some_byte x.sources ≡ true) × (x ≡ d)) (decision policy trace m) (decisions policy.rule m.state) made)
+
+  record IsWithin (n : ℕ) (m : Moment) : Type 0 where
+    time : ℕ
+    below : time < n
+    at : IsAt (moment_after time m)
+
+  within : (n : ℕ) (m : Moment) → Some_in (λ x. x ≡ d) (decided_from policy trace n m) → IsWithin n m
+  within zero m h = absurd h
+  within (suc n) m h = by (within n (advance m)) (some-append (λ x. x ≡ d) (decided_at policy trace m) (decided_from policy trace n (advance m)) h) where
+    by : (Some_in (λ x. x ≡ d) (decided_from policy trace n (advance m)) → IsWithin n (advance m))
+        → Some_in (λ x. x ≡ d) (decided_at policy trace m) ⊎ Some_in (λ x. x ≡ d) (decided_from policy trace n (advance m)) → IsWithin (suc n) m
+    by ih (inl h) = record { time = 0; below = omega arith; at = at_moment m h }
+    by ih (inr h) = let later = ih h in let low = later.below in record { time = suc later.time; below = omega arith; at = later.at }
+
+  listed_from : (t n : ℕ) (m : Moment) → t < n → IsAt (moment_after t m) → Some_in (λ x. x ≡ d) (decided_from policy trace n m)
+  listed_from t zero m low at = absurd (omega arith)
+  listed_from zero (suc n) m low at = some-left (λ x. x ≡ d) (decided_at policy trace m) (decided_from policy trace n (advance m)) (listed_at m at)
+  listed_from (suc t) (suc n) m low at =
+      some-right (λ x. x ≡ d) (decided_at policy trace m) (decided_from policy trace n (advance m)) (listed_from t n (advance m) (omega arith) at)
+
+pub decided_are_decisions : DecidedAreDecisions
+decided_are_decisions policy s log d = (to, from) where
+  to : Contains (decided policy s log) d → IsDecision policy s log d
+  to c =
+      let w = within policy (trace s log) d (moments_seen log.end) (start s log) (some-Contains (decided policy s log) d c) in
+      record { time = w.time; loc = w.at.loc; seen = w.below; decides = w.at.decides; is = w.at.is; has_source = w.at.has_source }
+
+  from : IsDecision policy s log d → Contains (decided policy s log) d
+  from h =
+      Contains-some (decided policy s log) d (listed_from policy (trace s log) d h.time (moments_seen log.end) (start s log) h.seen
+      (record { loc = h.loc; decides = h.decides; is = h.is; has_source = h.has_source }))

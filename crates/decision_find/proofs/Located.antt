@@ -3,11 +3,11 @@ use Rattle.std.proofs.Common.{ℕ, ◌<◌, List, [], ◌∷◌, ◌++◌, arith
 use Rattle.isa.specs.declared.CallKind.{CallKind}
 use Rattle.isa.specs.declared.CallKind.TheVariants as kind
 use Rattle.isa.specs.declared.Instr.{Instr}
-use Rattle.isa.specs.declared.Instr.TheVariants.{Lui, Auipc, Jal, Jalr, Beq, Bne, Blt, Bge, Bltu, Bgeu, Lb, Lh, Lw, Lbu, Lhu, Sb, Sh, Sw, Addi, Slti, Sltiu, Xori, Ori, Andi, Slli, Srli, Srai, Add, Sub, Sll, Slt, Sltu, Xor, Srl, Sra, Or, And, Mul, Mulh, Mulhsu, Mulhu, Div, Divu, Rem, Remu, Fence, Ecall, Ebreak}
+use Rattle.isa.specs.declared.Instr.TheVariants.{Jalr, Beq, Bne, Blt, Bge, Bltu, Bgeu, Lb, Lh, Lw, Lbu, Lhu, Sb, Sh, Sw, Ecall}
 use Rattle.isa.specs.Encodings.{Fits}
 use Rattle.flow_model.specs.declared.Loc.{Loc}
 use Rattle.flow_model.specs.declared.Rule.{Rule}
-use Rattle.flow_model.specs.declared.Rule.TheVariants.{Copy, Keep, Compute, Index}
+use Rattle.flow_model.specs.declared.Rule.TheVariants.{Index}
 use Rattle.flow_model.specs.Flow.{lanes, all_lanes}
 use Rattle.flow_model.specs.Ranges.{AreLocations}
 use Rattle.flow_model.proofs.Located.{in-lanes}
@@ -27,10 +27,8 @@ in_all_lanes : (a b : ℕ) → a < 32 → b < 32 → AreLocations (all_lanes a b
 in_all_lanes a b h k = located (all_lanes a b 0) (union_here (lanes a) (lanes b) (lanes_here a h) (lanes_here b k))
 
 in_base : (rule : Rule) (a : ℕ) → a < 32 → AreLocations (base_of_load rule a)
-in_base Copy a h = in-lanes a h
-in_base Keep a h = in-lanes a h
-in_base Compute a h = in-lanes a h
 in_base Index a h = tt
+in_base rule a h = in-lanes a h
 
 arguments : AreLocations (lanes 10 ++ lanes 11 ++ lanes 12)
 arguments = both (lanes 10) (lanes 11 ++ lanes 12) (in-lanes 10 (omega arith)) (both (lanes 11) (lanes 12) (in-lanes 11 (omega arith)) (in-lanes 12 (omega arith)))
@@ -38,17 +36,13 @@ arguments = both (lanes 10) (lanes 11 ++ lanes 12) (in-lanes 10 (omega arith)) (
 in_used : (k : CallKind) → AreLocations (used k)
 in_used kind.Read = arguments
 in_used kind.Write = arguments
-in_used kind.Clock = tt
-in_used kind.Other = tt
 in_used kind.Exit = in-lanes 10 (omega arith)
+in_used k = tt
 
 in_call : (k : CallKind) → AreLocations (asked k)
 in_call k = both (used k) (lanes 17) (in_used k) (in-lanes 17 (omega arith))
 
 pub decides_located : (rule : Rule) (kind : CallKind) (i : Instr) → Fits i → AreLocations (decides rule kind i)
-decides_located rule kind (Lui d imm) h = tt
-decides_located rule kind (Auipc d imm) h = tt
-decides_located rule kind (Jal d imm) h = tt
 decides_located rule kind (Jalr d a imm) h = in-lanes a h.1
 decides_located rule kind (Beq a b imm) h = in_all_lanes a b h.0 h.1
 decides_located rule kind (Bne a b imm) h = in_all_lanes a b h.0 h.1
@@ -64,36 +58,8 @@ decides_located rule kind (Lhu d a imm) h = in_base rule a h.1
 decides_located rule kind (Sb a b imm) h = in-lanes a h.0
 decides_located rule kind (Sh a b imm) h = in-lanes a h.0
 decides_located rule kind (Sw a b imm) h = in-lanes a h.0
-decides_located rule kind (Addi d a imm) h = tt
-decides_located rule kind (Slti d a imm) h = tt
-decides_located rule kind (Sltiu d a imm) h = tt
-decides_located rule kind (Xori d a imm) h = tt
-decides_located rule kind (Ori d a imm) h = tt
-decides_located rule kind (Andi d a imm) h = tt
-decides_located rule kind (Slli d a k) h = tt
-decides_located rule kind (Srli d a k) h = tt
-decides_located rule kind (Srai d a k) h = tt
-decides_located rule kind (Add d a b) h = tt
-decides_located rule kind (Sub d a b) h = tt
-decides_located rule kind (Sll d a b) h = tt
-decides_located rule kind (Slt d a b) h = tt
-decides_located rule kind (Sltu d a b) h = tt
-decides_located rule kind (Xor d a b) h = tt
-decides_located rule kind (Srl d a b) h = tt
-decides_located rule kind (Sra d a b) h = tt
-decides_located rule kind (Or d a b) h = tt
-decides_located rule kind (And d a b) h = tt
-decides_located rule kind (Mul d a b) h = tt
-decides_located rule kind (Mulh d a b) h = tt
-decides_located rule kind (Mulhsu d a b) h = tt
-decides_located rule kind (Mulhu d a b) h = tt
-decides_located rule kind (Div d a b) h = tt
-decides_located rule kind (Divu d a b) h = tt
-decides_located rule kind (Rem d a b) h = tt
-decides_located rule kind (Remu d a b) h = tt
-decides_located rule kind (Fence kept) h = tt
 decides_located rule kind Ecall h = in_call kind
-decides_located rule kind Ebreak h = tt
+decides_located rule kind i h = tt
 
 pub fetched_located : (pc : ℕ) → AreLocations (fetched_from pc)
 fetched_located pc = (omega arith, (omega arith, (omega arith, (omega arith, tt))))

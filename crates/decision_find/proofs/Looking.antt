@@ -1,12 +1,15 @@
 -- The look before a step of a run is that of the moment, and so is the look at a trap.
-use Rattle.std.proofs.Common.{◌≡◌, ℕ, ◌≤◌, ◌⊎◌, inl, inr, Bool, true, false, List, [], ◌∷◌, refl, ap, ap₂, sym, ◌∙◌, subst, arith, int_lt}
-use Rattle.std.specs.Prelude.{◌==◌, not, nat_lt, nat_le, Option, Some, None, MatchOption}
+use Rattle.std.proofs.Common.{◌≡◌, ℕ, ◌≤◌, ◌⊎◌, inl, inr, Bool, true, false, List, [], ◌∷◌, refl, ap, ap₂, sym, ◌∙◌, subst, arith}
+use Rattle.std.specs.Prelude.{Option, Some, None, MatchOption}
+use Rattle.std.proofs.lemmas.Option.{same_Some}
 use Rattle.isa.specs.declared.Call.{Call}
 use Rattle.isa.specs.declared.CallKind.{CallKind}
 use Rattle.isa.specs.declared.CallKind.TheVariants as kind
+use Rattle.isa.specs.declared.Effect.{Effect}
+use Rattle.isa.specs.declared.Effect.TheVariants.{Jump, Branch, Load, Store, EnvironmentCall}
 use Rattle.isa.specs.declared.Instr.{Instr}
-use Rattle.isa.specs.declared.Instr.TheVariants.{Lui, Auipc, Jal, Jalr, Beq, Bne, Blt, Bge, Bltu, Bgeu, Lb, Lh, Lw, Lbu, Lhu, Sb, Sh, Sw, Addi, Slti, Sltiu, Xori, Ori, Andi, Slli, Srli, Srai, Add, Sub, Sll, Slt, Sltu, Xor, Srl, Sra, Or, And, Mul, Mulh, Mulhsu, Mulhu, Div, Divu, Rem, Remu, Fence, Ecall, Ebreak}
-use Rattle.isa.specs.Machine.{State, Outcome, Retired, Called, Trapped, as_signed, relative, reg, kind_of, call_of, execute, effect_of, landed, branched, loaded, stored, is_aligned, Fetch, Fetched, OutsideWindow, Illegal, fetch, outcome_of, next}
+use Rattle.isa.specs.declared.Instr.TheVariants.{Ecall}
+use Rattle.isa.specs.Machine.{State, Outcome, Retired, Called, Trapped, reg, kind_of, call_of, execute, effect_of, landed, branched, loaded, stored, is_aligned, Fetch, Fetched, OutsideWindow, Illegal, fetch, outcome_of, next}
 use Rattle.log_model.specs.declared.CallRecord.{CallRecord}
 use Rattle.log_model.specs.declared.CallRecord.TheVariants.{Read, Write, Clock, Other}
 use Rattle.log_model.specs.declared.RunEnd.TheVariants.{Trap}
@@ -47,60 +50,26 @@ not_stored : (s : State) (held : Bool) (a n v : ℕ) → NoCall (stored s held a
 not_stored s true a n v = tt
 not_stored s false a n v = tt
 
+abbrev IsNoCall : Effect → Type 0
+IsNoCall EnvironmentCall = ⊥
+IsNoCall effect = Unit {0}
+
+not_called : (s : State) (effect : Effect) → IsNoCall effect → NoCall (execute s effect)
+not_called s (Jump d target) h = not_landed (is_aligned target) _
+not_called s (Branch taken target) h = not_branched s taken target
+not_called s (Load d a n is_signed) h = not_loaded s _ d a n is_signed
+not_called s (Store a n v) h = not_stored s _ a n v
+not_called s EnvironmentCall h = absurd h
+not_called s effect h = tt
+
 -- an instruction that is no call: the kind that a call would be of makes no difference
 record IsOther (s : State) (i : Instr) : Type 0 where
   kinds : (rule : Rule) (j k : CallKind) → decides rule j i ≡ decides rule k i
   no_call : NoCall (execute s (effect_of s i))
 
 other_or_call : (s : State) (i : Instr) → IsOther s i ⊎ (i ≡ Ecall)
-other_or_call s (Lui d imm) = inl (record { kinds = λ rule j k. refl; no_call = tt })
-other_or_call s (Auipc d imm) = inl (record { kinds = λ rule j k. refl; no_call = tt })
-other_or_call s (Jal d imm) = inl (record { kinds = λ rule j k. refl; no_call = not_landed _ _ })
-other_or_call s (Jalr d a imm) = inl (record { kinds = λ rule j k. refl; no_call = not_landed _ _ })
-other_or_call s (Beq a b imm) = inl (record { kinds = λ rule j k. refl; no_call = not_branched s (reg s a == reg s b) (relative s imm) })
-other_or_call s (Bne a b imm) = inl (record { kinds = λ rule j k. refl; no_call = not_branched s (not (reg s a == reg s b)) (relative s imm) })
-other_or_call s (Blt a b imm) = inl (record { kinds = λ rule j k. refl; no_call = not_branched s (int_lt (as_signed (reg s a)) (as_signed (reg s b))) (relative s imm) })
-other_or_call s (Bge a b imm) = inl (record { kinds = λ rule j k. refl; no_call = not_branched s (not (int_lt (as_signed (reg s a)) (as_signed (reg s b)))) (relative s imm) })
-other_or_call s (Bltu a b imm) = inl (record { kinds = λ rule j k. refl; no_call = not_branched s (nat_lt (reg s a) (reg s b)) (relative s imm) })
-other_or_call s (Bgeu a b imm) = inl (record { kinds = λ rule j k. refl; no_call = not_branched s (nat_le (reg s b) (reg s a)) (relative s imm) })
-other_or_call s (Lb d a imm) = inl (record { kinds = λ rule j k. refl; no_call = not_loaded s _ _ _ _ _ })
-other_or_call s (Lh d a imm) = inl (record { kinds = λ rule j k. refl; no_call = not_loaded s _ _ _ _ _ })
-other_or_call s (Lw d a imm) = inl (record { kinds = λ rule j k. refl; no_call = not_loaded s _ _ _ _ _ })
-other_or_call s (Lbu d a imm) = inl (record { kinds = λ rule j k. refl; no_call = not_loaded s _ _ _ _ _ })
-other_or_call s (Lhu d a imm) = inl (record { kinds = λ rule j k. refl; no_call = not_loaded s _ _ _ _ _ })
-other_or_call s (Sb a b imm) = inl (record { kinds = λ rule j k. refl; no_call = not_stored s _ _ _ _ })
-other_or_call s (Sh a b imm) = inl (record { kinds = λ rule j k. refl; no_call = not_stored s _ _ _ _ })
-other_or_call s (Sw a b imm) = inl (record { kinds = λ rule j k. refl; no_call = not_stored s _ _ _ _ })
-other_or_call s (Addi d a imm) = inl (record { kinds = λ rule j k. refl; no_call = tt })
-other_or_call s (Slti d a imm) = inl (record { kinds = λ rule j k. refl; no_call = tt })
-other_or_call s (Sltiu d a imm) = inl (record { kinds = λ rule j k. refl; no_call = tt })
-other_or_call s (Xori d a imm) = inl (record { kinds = λ rule j k. refl; no_call = tt })
-other_or_call s (Ori d a imm) = inl (record { kinds = λ rule j k. refl; no_call = tt })
-other_or_call s (Andi d a imm) = inl (record { kinds = λ rule j k. refl; no_call = tt })
-other_or_call s (Slli d a k) = inl (record { kinds = λ rule j k. refl; no_call = tt })
-other_or_call s (Srli d a k) = inl (record { kinds = λ rule j k. refl; no_call = tt })
-other_or_call s (Srai d a k) = inl (record { kinds = λ rule j k. refl; no_call = tt })
-other_or_call s (Add d a b) = inl (record { kinds = λ rule j k. refl; no_call = tt })
-other_or_call s (Sub d a b) = inl (record { kinds = λ rule j k. refl; no_call = tt })
-other_or_call s (Sll d a b) = inl (record { kinds = λ rule j k. refl; no_call = tt })
-other_or_call s (Slt d a b) = inl (record { kinds = λ rule j k. refl; no_call = tt })
-other_or_call s (Sltu d a b) = inl (record { kinds = λ rule j k. refl; no_call = tt })
-other_or_call s (Xor d a b) = inl (record { kinds = λ rule j k. refl; no_call = tt })
-other_or_call s (Srl d a b) = inl (record { kinds = λ rule j k. refl; no_call = tt })
-other_or_call s (Sra d a b) = inl (record { kinds = λ rule j k. refl; no_call = tt })
-other_or_call s (Or d a b) = inl (record { kinds = λ rule j k. refl; no_call = tt })
-other_or_call s (And d a b) = inl (record { kinds = λ rule j k. refl; no_call = tt })
-other_or_call s (Mul d a b) = inl (record { kinds = λ rule j k. refl; no_call = tt })
-other_or_call s (Mulh d a b) = inl (record { kinds = λ rule j k. refl; no_call = tt })
-other_or_call s (Mulhsu d a b) = inl (record { kinds = λ rule j k. refl; no_call = tt })
-other_or_call s (Mulhu d a b) = inl (record { kinds = λ rule j k. refl; no_call = tt })
-other_or_call s (Div d a b) = inl (record { kinds = λ rule j k. refl; no_call = tt })
-other_or_call s (Divu d a b) = inl (record { kinds = λ rule j k. refl; no_call = tt })
-other_or_call s (Rem d a b) = inl (record { kinds = λ rule j k. refl; no_call = tt })
-other_or_call s (Remu d a b) = inl (record { kinds = λ rule j k. refl; no_call = tt })
-other_or_call s (Fence kept) = inl (record { kinds = λ rule j k. refl; no_call = tt })
 other_or_call s Ecall = inr refl
-other_or_call s Ebreak = inl (record { kinds = λ rule j k. refl; no_call = tt })
+other_or_call s i = inl (record { kinds = λ rule j k. refl; no_call = not_called s (effect_of s i) tt })
 
 -- ---- the look before a step
 
@@ -109,12 +78,6 @@ record IsShown (s : State) (f : Fetch) (step : StepSeen) : Type 0 where
   instr : Some step.instr ≡ instr_of f
   decides_too : (rule : Rule)
       → decides_fetched rule (kind_seen step.call) (Some step.instr) ≡ decides_fetched rule (kind_of (reg s 17)) (instr_of f)
-
-trapped_no_step : {A : Type 0} (k : ℕ) (x : State) → Trapped k ≡ Retired x → A
-trapped_no_step k x e = cc
-
-trapped_no_call : {A : Type 0} (k : ℕ) (call : Call) → Trapped k ≡ Called call → A
-trapped_no_call k call e = cc
 
 called_no_step : {A : Type 0} (call : Call) (x : State) → Called call ≡ Retired x → A
 called_no_step call x e = cc
@@ -168,15 +131,12 @@ looks_at_step job pc s is =
     let m = moment_of job t in
     let there = on_track_at job.log job.start t is.is_job.form is.is_job.agrees within in
     let time : m.time ≡ t = there.time in
-    let made : s ≡ step_of m = one_step s (step_of m) (sym is.step ∙ step_at_from (steps job.log) t (start job.start job.log) is.below) in
+    let made : s ≡ step_of m = same_Some s (step_of m) (sym is.step ∙ step_at_from (steps job.log) t (start job.start job.log) is.below) in
     let done : IsDoneAt job.log m.time m.state m.left (next m.state) =
     subst (λ (k : ℕ). IsDoneAt job.log k m.state m.left (next m.state)) (sym time) (done_at job.log job.start t is.is_job.form is.is_job.agrees is.below) in
     let shown : IsShown m.state (fetch m.state) s = subst (IsShown m.state (fetch m.state)) (sym made) (by_fetch job.log m (fetch m.state) refl done) in
     record { time = sym time; pc = is.at_pc; instr = shown.instr; decides = shown.decides_too }
   where
-    one_step : (x y : StepSeen) → Some x ≡ Some y → x ≡ y
-    one_step x y e = cc
-
     within : s.number ≤ end_at job.log.end
     within = let last = steps_within job.log.end in let below = is.below in omega arith
 
@@ -213,16 +173,13 @@ fetched_is None Illegal h = refl
 fetched_is None (Fetched i) h = absurd (h i refl)
 fetched_is (Some i) f h = ap instr_of (sym h)
 
-trap_time : (log : Log) (at k pc : ℕ) → log.end ≡ Trap at k pc → steps log ≡ at
-trap_time log at k pc e = ap steps_by e
-
 -- the look of a run that stands where it traps
 pub looks_at_end : (job : Job) (s : State) (look : Look) (at k pc : ℕ) → IsJob job → s ≡ (moment_of job (steps job.log)).state → job.log.end ≡ Trap at k pc
     → look.time ≡ steps job.log → look.pc ≡ s.pc → MatchOption look.instr ((i : Instr) → fetch s ≡ Fetched i → ⊥) (λ i. fetch s ≡ Fetched i)
     → IsLookAt (moment_of job (steps job.log)) look
 looks_at_end job s look at k pc is state e time here there =
     let n = steps job.log in
-    let last : n ≡ at = trap_time job.log at k pc e in
+    let last : n ≡ at = ap steps_by e in
     let end : end_at job.log.end ≡ at = ap end_at e in
     let m = moment_of job n in
     let moment_time : m.time ≡ n = (on_track_at job.log job.start n is.form is.agrees (omega arith)).time in

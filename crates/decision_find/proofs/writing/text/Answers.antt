@@ -3,8 +3,7 @@ use Rattle.std.specs.Prelude.{Some}
 use Rattle.std.specs.Map.Iter.{deref_pair}
 use Rattle.std.proofs.lemmas.Map.Iter.{btree_map_turn, rest_all}
 use Rattle.printed_names.specs.Lines.{lines_end}
-use Rattle.decision_find.proofs.Counted.{found_at}
-use Rattle.decision_find.proofs.Written.{compared_total, lines_of, text_is}
+use Rattle.decision_find.proofs.Counted.{found_at, compared_total, lines_of, text_is}
 use Rattle.decision_find.proofs.writing.text.Goals as goal
 
 pub push_group-requires : goal.push_group-requires

@@ -1,5 +1,5 @@
 use Rattle.std.proofs.Common.{◌≡◌, ◌++◌}
-use Rattle.decision_find.proofs.Written.{lines_of}
+use Rattle.decision_find.proofs.Counted.{lines_of}
 use Rattle.decision_find.proofs.writing.text.Given as goal
 
 abbrev pub invariant-loop-place : goal.invariant-loop-place

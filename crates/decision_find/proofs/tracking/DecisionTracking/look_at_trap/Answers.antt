@@ -1,6 +1,6 @@
 use Rattle.isa.specs.declared.CallKind.TheVariants.{Other}
 use Rattle.decision_find.specs.declared.looks.Look.{Look}
-use Rattle.decision_find.proofs.Standing.{looked_at_trap}
+use Rattle.decision_find.proofs.Followed.{looked_at_trap}
 use Rattle.decision_find.proofs.tracking.DecisionTracking.look_at_trap.Goals as goal
 
 pub returns-clause-looked : goal.returns-clause-looked

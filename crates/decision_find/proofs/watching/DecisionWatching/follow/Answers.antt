@@ -4,7 +4,7 @@ use Rattle.no_memory.specs.declared.NoMemory.{NoMemory}
 use Rattle.decision_find.specs.declared.tracking.DecisionTracking.{DecisionTracking}
 use Rattle.decision_find.specs.Following.{moment_of}
 use Rattle.decision_find.specs.Watched.{IsFollowed, IsSeenTo}
-use Rattle.decision_find.proofs.Standing.{step_tracked}
+use Rattle.decision_find.proofs.Followed.{step_tracked}
 use Rattle.decision_find.proofs.watching.DecisionWatching.follow.Goals as goal
 
 pub returns-in-Ok-step : goal.returns-in-Ok-step
