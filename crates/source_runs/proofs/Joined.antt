@@ -93,7 +93,8 @@ rise_hull r s (t ∷ ts) e h = (by h.0 h.1.0, h.1.1) where
   by (inr k) (inl c) = inl (omega (arith, c, k.0))
   by (inr k) (inr c) = inr (k.0 ∙ c.0, omega (arith, k.1, c.1))
 
-pub joined_members : (r : SourceRun) (ss : List SourceRun) (q : SourceByte) → has source_cmp q (all_bytes (joined_from r ss)) ≡ has source_cmp q (all_bytes (r ∷ ss))
+pub joined_members : (r : SourceRun) (ss : List SourceRun) (q : SourceByte)
+    → has source_cmp q (all_bytes (joined_from r ss)) ≡ has source_cmp q (all_bytes (r ∷ ss))
 joined_members r [] q = refl
 joined_members r (s ∷ ss) q = elim (cases_Bool (touches r s)) [
   | inl e ↦
@@ -152,13 +153,16 @@ all_after s ss h y m = elim (or_cases (has source_cmp y (bytes_of s)) (has sourc
 pub joined_ascends : (r : SourceRun) (ss : List SourceRun) → Rise r ss → Ascends source_cmp (all_bytes (joined_from r ss))
 joined_ascends r [] h = subst (Ascends source_cmp) (sym (append-nil (bytes_of r))) (run_ascends r)
 joined_ascends r (s ∷ ss) h = elim (cases_Bool (touches r s)) [
-  | inl e ↦ subst (λ (rs : List SourceRun). Ascends source_cmp (all_bytes rs)) (sym (next_joined r s ss e)) (joined_ascends (hull r s) ss (rise_hull r s ss e h))
+  | inl e ↦
+      subst (λ (rs : List SourceRun). Ascends source_cmp (all_bytes rs)) (sym (next_joined r s ss e))
+      (joined_ascends (hull r s) ss (rise_hull r s ss e h))
   | inr e ↦
       subst (λ (rs : List SourceRun). Ascends source_cmp (all_bytes rs)) (sym (next_apart r s ss e))
       (ascends_append (bytes_of r) (all_bytes (joined_from s ss)) (run_ascends r) (joined_ascends s ss h.1)
       (λ x y l m. less x y (first_less x y (of_run x r l) h.0 (all_after s ss h.1 y (sym (joined_members s ss y) ∙ m)) e)))
 ] where
-  first_less : (x y : SourceByte) → IsOf x r → IsBefore r s → IsAfter s y → touches r s ≡ false → (x.channel < y.channel) ⊎ ((x.channel ≡ y.channel) × (x.offset < y.offset))
+  first_less : (x y : SourceByte) → IsOf x r → IsBefore r s → IsAfter s y → touches r s ≡ false
+      → (x.channel < y.channel) ⊎ ((x.channel ≡ y.channel) × (x.offset < y.offset))
   first_less x y i (inl b) (inl a) e = inl (omega (arith, i.channel, b, a))
   first_less x y i (inl b) (inr a) e = inl (omega (arith, i.channel, b, a.0))
   first_less x y i (inr b) (inl a) e = inl (omega (arith, i.channel, b.0, a))

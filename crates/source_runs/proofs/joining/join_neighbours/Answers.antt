@@ -50,7 +50,8 @@ pub returns-clause-members : goal.returns-clause-members
 returns-clause-members c b = ap (λ (rs : List SourceRun). has source_cmp b (all_bytes rs)) (all_joined c) ∙ joined_all_members c.args.runs.now b
 
 pub returns-clause-ascending : goal.returns-clause-ascending
-returns-clause-ascending c rising = subst (λ (rs : List SourceRun). Ascends source_cmp (all_bytes rs)) (sym (all_joined c)) (joined_all_ascends c.args.runs.now rising)
+returns-clause-ascending c rising =
+    subst (λ (rs : List SourceRun). Ascends source_cmp (all_bytes rs)) (sym (all_joined c)) (joined_all_ascends c.args.runs.now rising)
 
 pub returns-clause-longest : goal.returns-clause-longest
 returns-clause-longest c rising = subst AreLongest (sym (all_joined c)) (joined_all_longest c.args.runs.now rising)

@@ -23,7 +23,11 @@ all : (bs : List SourceByte) (none found : List SourceRange) → none ≡ [] →
 all bs none found e is = is ∙ ap (λ (rs : List SourceRange). rs ++ ranges_of bs) e
 
 pub of_ranges-requires : goal.of_ranges-requires
-of_ranges-requires c = kept-of c.args.sources.now c.push_ranges.new.found.items (all c.args.sources.now _ _ c.new-ranges.ensures.items c.in_ok-push_ranges.ensures.ranges) c.requires c.in_ok-push_ranges.ensures.fits
+of_ranges-requires c =
+    kept-of c.args.sources.now c.push_ranges.new.found.items
+    (all c.args.sources.now _ _ c.new-ranges.ensures.items c.in_ok-push_ranges.ensures.ranges) c.requires c.in_ok-push_ranges.ensures.fits
 
 pub returns : goal.returns
-returns c = c.of_ranges.ensures ∙ ap (flat_map bytes_of) (all c.args.sources.now _ _ c.new-ranges.ensures.items c.in_ok-push_ranges.ensures.ranges) ∙ bytes-ranges c.args.sources.now
+returns c =
+    c.of_ranges.ensures ∙ ap (flat_map bytes_of) (all c.args.sources.now _ _ c.new-ranges.ensures.items c.in_ok-push_ranges.ensures.ranges)
+    ∙ bytes-ranges c.args.sources.now
