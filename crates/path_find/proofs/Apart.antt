@@ -22,7 +22,7 @@ use Rattle.path_find.specs.declared.carriers.Carriers.{Carriers}
 use Rattle.path_find.specs.Labels.{path_at}
 use Rattle.path_find.specs.Carriers.{HasNothing}
 use Rattle.path_find.specs.Trails.{told, AreStanding, Becomes, IsApart, carried}
-use Rattle.path_find.proofs.Places.{same_loc}
+use Rattle.path_find.proofs.Tables.{same_loc}
 
 -- ---- the locations of a store
 

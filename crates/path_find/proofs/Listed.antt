@@ -246,11 +246,13 @@ has_pair : (rs : List Row) (pair : Pair) → first_pair rs ≡ Some pair → Has
 unfolding HasPair
 has_pair [] pair e = absurd cc
 has_pair (r ∷ rs) pair e = by r.sources refl e (has_pair rs pair) where
-  by : (ss : List SourceByte) → r.sources ≡ ss → pair_or r.sink ss (first_pair rs) ≡ Some pair → (first_pair rs ≡ Some pair → HasPair rs pair) → HasPair (r ∷ rs) pair
+  by : (ss : List SourceByte) → r.sources ≡ ss → pair_or r.sink ss (first_pair rs) ≡ Some pair → (first_pair rs ≡ Some pair → HasPair rs pair)
+      → HasPair (r ∷ rs) pair
   by [] is e ih = let more = ih e in (more.0, (suc more.1.0, omega (arith, more.1.1), more.1.2), more.2, more.3)
   by (s ∷ ss) is e ih =
       let same = same_Some _ pair e in
-      (r, (0, omega arith, refl), ap (λ (p : Pair). p.sink) same, subst (λ (xs : List SourceByte). Contains xs pair.source) (sym is) (0, omega arith, ap (λ (p : Pair). p.source) same))
+      let lists = subst (λ (xs : List SourceByte). Contains xs pair.source) (sym is) (0, omega arith, ap (λ (p : Pair). p.source) same) in
+      (r, (0, omega arith, refl), ap (λ (p : Pair). p.sink) same, lists)
 
 pub first_pair_has_path : FirstPairHasPath
 unfolding HasPair

@@ -4,8 +4,7 @@ use Rattle.std.proofs.lemmas.List.{length-set}
 use Rattle.std.proofs.lemmas.Option.{slice_get_within, same_Some}
 use Rattle.flow_model.proofs.Located.{origins_located}
 use Rattle.path_find.specs.Carriers.{kept, first_label}
-use Rattle.path_find.proofs.Places.{other_label}
-use Rattle.path_find.proofs.Tables.{length_map}
+use Rattle.path_find.proofs.Tables.{other_label, length_map}
 use Rattle.path_find.proofs.following.first_labels.Goals as goal
 
 pub first-requires : goal.first-requires
