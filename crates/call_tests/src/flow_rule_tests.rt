@@ -4,6 +4,7 @@ ghost use Rattle.std.specs.Prelude.{◌<◌, length};
 
 use crate::asserts::assert_same;
 use flow_rule::*;
+use guest_assembler::instruction;
 use isa::{CallKind, Instr};
 
 /// An address at whose third byte places wrap.
@@ -111,231 +112,77 @@ const ZERO_STORED: Rows = &[&[0xfe]];
 const ZERO_STORED_BY_X7: Rows = &[&[0xfe, 0x70, 0x71, 0x72, 0x73]];
 
 const CASES: &[Case] = &[
+    (instruction!(lw(x5, 0(x7))), [WORD, WORD, WORD_BY_X7]),
+    (instruction!(lw(x5, 0(x0))), [WORD, WORD, WORD]),
     (
-        Instr::Lw {
-            rd: 5,
-            rs1: 7,
-            imm: 0,
-        },
-        [WORD, WORD, WORD_BY_X7],
-    ),
-    (
-        Instr::Lw {
-            rd: 5,
-            rs1: 0,
-            imm: 0,
-        },
-        [WORD, WORD, WORD],
-    ),
-    (
-        Instr::Lh {
-            rd: 5,
-            rs1: 0,
-            imm: 0,
-        },
+        instruction!(lh(x5, 0(x0))),
         [HALF, SIGNED_HALF, SIGNED_HALF],
     ),
     (
-        Instr::Lb {
-            rd: 5,
-            rs1: 7,
-            imm: 0,
-        },
+        instruction!(lb(x5, 0(x7))),
         [BYTE, SIGNED_BYTE, SIGNED_BYTE_BY_X7],
     ),
+    (instruction!(lbu(x5, 0(x7))), [BYTE, BYTE, BYTE_BY_X7]),
+    (instruction!(sw(x7, 0(x0))), [STORED, STORED, STORED]),
     (
-        Instr::Lbu {
-            rd: 5,
-            rs1: 7,
-            imm: 0,
-        },
-        [BYTE, BYTE, BYTE_BY_X7],
-    ),
-    (
-        Instr::Sw {
-            rs1: 0,
-            rs2: 7,
-            imm: 0,
-        },
-        [STORED, STORED, STORED],
-    ),
-    (
-        Instr::Sh {
-            rs1: 9,
-            rs2: 7,
-            imm: 0,
-        },
+        instruction!(sh(x7, 0(x9))),
         [HALF_STORED, HALF_STORED, HALF_STORED_BY_X9],
     ),
     (
-        Instr::Sb {
-            rs1: 7,
-            rs2: 0,
-            imm: 0,
-        },
+        instruction!(sb(x0, 0(x7))),
         [ZERO_STORED, ZERO_STORED, ZERO_STORED_BY_X7],
     ),
     (
-        Instr::Sb {
-            rs1: 7,
-            rs2: 7,
-            imm: 0,
-        },
+        instruction!(sb(x7, 0(x7))),
         [&[&[0xfe, 0x70]], &[&[0xfe, 0x70]], ZERO_STORED_BY_X7],
     ),
+    (instruction!(addi(x5, x7, 0)), [FROM_X7, FROM_X7, FROM_X7]),
     (
-        Instr::Addi {
-            rd: 5,
-            rs1: 7,
-            imm: 0,
-        },
-        [FROM_X7, FROM_X7, FROM_X7],
-    ),
-    (
-        Instr::Addi {
-            rd: 5,
-            rs1: 7,
-            imm: 1,
-        },
+        instruction!(addi(x5, x7, 1)),
         [EMPTIED, FROM_ALL_OF_X7, FROM_ALL_OF_X7],
     ),
+    (instruction!(add(x5, x0, x7)), [FROM_X7, FROM_X7, FROM_X7]),
+    (instruction!(add(x5, x7, x9)), [EMPTIED, FROM_ALL, FROM_ALL]),
     (
-        Instr::Add {
-            rd: 5,
-            rs1: 0,
-            rs2: 7,
-        },
-        [FROM_X7, FROM_X7, FROM_X7],
-    ),
-    (
-        Instr::Add {
-            rd: 5,
-            rs1: 7,
-            rs2: 9,
-        },
-        [EMPTIED, FROM_ALL, FROM_ALL],
-    ),
-    (
-        Instr::Xor {
-            rd: 5,
-            rs1: 9,
-            rs2: 7,
-        },
+        instruction!(xor(x5, x9, x7)),
         [EMPTIED, FROM_BOTH, FROM_BOTH],
     ),
+    (instruction!(and(x5, x0, x7)), [EMPTIED, FROM_X7, FROM_X7]),
+    (instruction!(andi(x5, x7, 255)), [EMPTIED, FROM_X7, FROM_X7]),
+    (instruction!(xori(x5, x7, 0)), [EMPTIED, FROM_X7, FROM_X7]),
     (
-        Instr::And {
-            rd: 5,
-            rs1: 0,
-            rs2: 7,
-        },
-        [EMPTIED, FROM_X7, FROM_X7],
+        instruction!(sub(x5, x7, x0)),
+        [EMPTIED, FROM_ALL_OF_X7, FROM_ALL_OF_X7],
     ),
+    (instruction!(mul(x5, x9, x7)), [EMPTIED, FROM_ALL, FROM_ALL]),
     (
-        Instr::Andi {
-            rd: 5,
-            rs1: 7,
-            imm: 255,
-        },
-        [EMPTIED, FROM_X7, FROM_X7],
-    ),
-    (
-        Instr::Xori {
-            rd: 5,
-            rs1: 7,
-            imm: 0,
-        },
-        [EMPTIED, FROM_X7, FROM_X7],
-    ),
-    (
-        Instr::Sub {
-            rd: 5,
-            rs1: 7,
-            rs2: 0,
-        },
+        instruction!(remu(x5, x7, x0)),
         [EMPTIED, FROM_ALL_OF_X7, FROM_ALL_OF_X7],
     ),
     (
-        Instr::Mul {
-            rd: 5,
-            rs1: 9,
-            rs2: 7,
-        },
-        [EMPTIED, FROM_ALL, FROM_ALL],
-    ),
-    (
-        Instr::Remu {
-            rd: 5,
-            rs1: 7,
-            rs2: 0,
-        },
-        [EMPTIED, FROM_ALL_OF_X7, FROM_ALL_OF_X7],
-    ),
-    (
-        Instr::Sll {
-            rd: 5,
-            rs1: 7,
-            rs2: 9,
-        },
+        instruction!(sll(x5, x7, x9)),
         [EMPTIED, SHIFTED_BY_X9, SHIFTED_BY_X9],
     ),
     (
-        Instr::Sra {
-            rd: 5,
-            rs1: 9,
-            rs2: 7,
-        },
+        instruction!(sra(x5, x9, x7)),
         [EMPTIED, SHIFTED_BY_X7, SHIFTED_BY_X7],
     ),
     (
-        Instr::Srai {
-            rd: 5,
-            rs1: 7,
-            amount: 8,
-        },
+        instruction!(srai(x5, x7, 8)),
         [EMPTIED, FROM_ALL_OF_X7, FROM_ALL_OF_X7],
     ),
     (
-        Instr::Sltu {
-            rd: 5,
-            rs1: 7,
-            rs2: 9,
-        },
+        instruction!(sltu(x5, x7, x9)),
         [EMPTIED, COMPARED, COMPARED],
     ),
     (
-        Instr::Slti {
-            rd: 5,
-            rs1: 7,
-            imm: 0,
-        },
+        instruction!(slti(x5, x7, 0)),
         [EMPTIED, COMPARED_ALONE, COMPARED_ALONE],
     ),
-    (
-        Instr::Jalr {
-            rd: 5,
-            rs1: 7,
-            imm: 0,
-        },
-        [EMPTIED, EMPTIED, EMPTIED],
-    ),
-    (
-        Instr::Add {
-            rd: 0,
-            rs1: 7,
-            rs2: 9,
-        },
-        [NO_ROW, NO_ROW, NO_ROW],
-    ),
-    (
-        Instr::Beq {
-            rs1: 7,
-            rs2: 9,
-            imm: 0,
-        },
-        [NO_ROW, NO_ROW, NO_ROW],
-    ),
-    (Instr::Ecall, [NO_ROW, NO_ROW, NO_ROW]),
+    (instruction!(jalr(x5, 0(x7))), [EMPTIED, EMPTIED, EMPTIED]),
+    (instruction!(add(x0, x7, x9)), [NO_ROW, NO_ROW, NO_ROW]),
+    (instruction!(beq(x7, x9, 0)), [NO_ROW, NO_ROW, NO_ROW]),
+    (instruction!(ecall()), [NO_ROW, NO_ROW, NO_ROW]),
 ];
 
 const LOWEST_KEPT: Rows = &[&[0x50, 0x70], &[0x51], &[0x52], &[0x53]];
@@ -348,206 +195,46 @@ const HIGHEST_LOWERED: Rows = &[&[0x50, 0x73], &[0x51], &[0x52], &[0x53]];
 
 /// Operations with an immediate, and their rows under keep.
 const KEPT: &[(Instr, Rows)] = &[
+    (instruction!(andi(x5, x7, 255)), LOWEST_KEPT),
+    (instruction!(andi(x5, x7, -256)), UPPER_KEPT),
+    (instruction!(andi(x5, x7, -2033)), HIGH_HALF_KEPT),
+    (instruction!(andi(x5, x7, -1)), FROM_X7),
+    (instruction!(andi(x5, x7, 0)), EMPTIED),
+    (instruction!(andi(x5, x0, 255)), EMPTIED),
+    (instruction!(andi(x0, x7, 255)), NO_ROW),
+    (instruction!(ori(x5, x7, 255)), UPPER_KEPT),
+    (instruction!(ori(x5, x7, 0)), FROM_X7),
+    (instruction!(ori(x5, x7, -1)), EMPTIED),
+    (instruction!(xori(x5, x7, -256)), LOWEST_KEPT),
+    (instruction!(xori(x5, x7, 0)), FROM_X7),
+    (instruction!(xori(x5, x7, -1)), EMPTIED),
+    (instruction!(slli(x5, x7, 0)), FROM_X7),
     (
-        Instr::Andi {
-            rd: 5,
-            rs1: 7,
-            imm: 255,
-        },
-        LOWEST_KEPT,
-    ),
-    (
-        Instr::Andi {
-            rd: 5,
-            rs1: 7,
-            imm: -256,
-        },
-        UPPER_KEPT,
-    ),
-    (
-        Instr::Andi {
-            rd: 5,
-            rs1: 7,
-            imm: -2033,
-        },
-        HIGH_HALF_KEPT,
-    ),
-    (
-        Instr::Andi {
-            rd: 5,
-            rs1: 7,
-            imm: -1,
-        },
-        FROM_X7,
-    ),
-    (
-        Instr::Andi {
-            rd: 5,
-            rs1: 7,
-            imm: 0,
-        },
-        EMPTIED,
-    ),
-    (
-        Instr::Andi {
-            rd: 5,
-            rs1: 0,
-            imm: 255,
-        },
-        EMPTIED,
-    ),
-    (
-        Instr::Andi {
-            rd: 0,
-            rs1: 7,
-            imm: 255,
-        },
-        NO_ROW,
-    ),
-    (
-        Instr::Ori {
-            rd: 5,
-            rs1: 7,
-            imm: 255,
-        },
-        UPPER_KEPT,
-    ),
-    (
-        Instr::Ori {
-            rd: 5,
-            rs1: 7,
-            imm: 0,
-        },
-        FROM_X7,
-    ),
-    (
-        Instr::Ori {
-            rd: 5,
-            rs1: 7,
-            imm: -1,
-        },
-        EMPTIED,
-    ),
-    (
-        Instr::Xori {
-            rd: 5,
-            rs1: 7,
-            imm: -256,
-        },
-        LOWEST_KEPT,
-    ),
-    (
-        Instr::Xori {
-            rd: 5,
-            rs1: 7,
-            imm: 0,
-        },
-        FROM_X7,
-    ),
-    (
-        Instr::Xori {
-            rd: 5,
-            rs1: 7,
-            imm: -1,
-        },
-        EMPTIED,
-    ),
-    (
-        Instr::Slli {
-            rd: 5,
-            rs1: 7,
-            amount: 0,
-        },
-        FROM_X7,
-    ),
-    (
-        Instr::Slli {
-            rd: 5,
-            rs1: 7,
-            amount: 8,
-        },
+        instruction!(slli(x5, x7, 8)),
         &[&[0x50], &[0x51, 0x70], &[0x52, 0x71], &[0x53, 0x72]],
     ),
     (
-        Instr::Slli {
-            rd: 5,
-            rs1: 7,
-            amount: 16,
-        },
+        instruction!(slli(x5, x7, 16)),
         &[&[0x50], &[0x51], &[0x52, 0x70], &[0x53, 0x71]],
     ),
     (
-        Instr::Slli {
-            rd: 5,
-            rs1: 7,
-            amount: 24,
-        },
+        instruction!(slli(x5, x7, 24)),
         &[&[0x50], &[0x51], &[0x52], &[0x53, 0x70]],
     ),
+    (instruction!(slli(x5, x7, 5)), EMPTIED),
     (
-        Instr::Slli {
-            rd: 5,
-            rs1: 7,
-            amount: 5,
-        },
-        EMPTIED,
-    ),
-    (
-        Instr::Srli {
-            rd: 5,
-            rs1: 7,
-            amount: 8,
-        },
+        instruction!(srli(x5, x7, 8)),
         &[&[0x50, 0x71], &[0x51, 0x72], &[0x52, 0x73], &[0x53]],
     ),
     (
-        Instr::Srli {
-            rd: 5,
-            rs1: 7,
-            amount: 16,
-        },
+        instruction!(srli(x5, x7, 16)),
         &[&[0x50, 0x72], &[0x51, 0x73], &[0x52], &[0x53]],
     ),
-    (
-        Instr::Srli {
-            rd: 5,
-            rs1: 7,
-            amount: 24,
-        },
-        HIGHEST_LOWERED,
-    ),
-    (
-        Instr::Srli {
-            rd: 5,
-            rs1: 7,
-            amount: 31,
-        },
-        EMPTIED,
-    ),
-    (
-        Instr::Srai {
-            rd: 5,
-            rs1: 7,
-            amount: 0,
-        },
-        FROM_X7,
-    ),
-    (
-        Instr::Srai {
-            rd: 5,
-            rs1: 7,
-            amount: 24,
-        },
-        HIGHEST_LOWERED,
-    ),
-    (
-        Instr::Srai {
-            rd: 5,
-            rs1: 7,
-            amount: 12,
-        },
-        EMPTIED,
-    ),
+    (instruction!(srli(x5, x7, 24)), HIGHEST_LOWERED),
+    (instruction!(srli(x5, x7, 31)), EMPTIED),
+    (instruction!(srai(x5, x7, 0)), FROM_X7),
+    (instruction!(srai(x5, x7, 24)), HIGHEST_LOWERED),
+    (instruction!(srai(x5, x7, 12)), EMPTIED),
 ];
 
 const X10: Rows = &[&[0xa0], &[0xa1], &[0xa2], &[0xa3]];

@@ -3,6 +3,31 @@
 //! twice.
 #![tactic(auto)]
 
+/// A source byte, by its channel and its offset.
+macro_rules! source {
+    ($channel:expr, $offset:expr) => { flow_model::SourceByte { channel: $channel, offset: $offset } };
+}
+
+/// Source bytes in a run, by its channel, its first and its last offset.
+macro_rules! run {
+    ($channel:expr, $first:expr, $last:expr) => { source_runs::SourceRun { channel: $channel, first: $first, last: $last } };
+}
+
+/// An output byte, by its channel and its offset.
+macro_rules! output {
+    ($channel:expr, $offset:expr) => { flow_model::SinkPoint::Out(flow_model::SinkByte { channel: $channel, offset: $offset }) };
+}
+
+/// A location inside a run, after so many steps.
+macro_rules! inside {
+    ($loc:expr, $time:expr) => { flow_model::SinkPoint::At(flow_model::InnerSink { time: $time, loc: $loc }) };
+}
+
+/// A lane of a register, by their numbers.
+macro_rules! lane {
+    ($number:expr, $lane:expr) => { flow_model::Loc::Reg { number: $number, lane: $lane } };
+}
+
 #[cfg(test)]
 mod asserts;
 #[cfg(test)]

@@ -22,25 +22,13 @@ enum Asked {
 /// How a node is asked for, the node that is given, and the leaves under it.
 type Case = (Asked, Node, &'static [Leaf]);
 
-const FIRST: SourceByte = SourceByte {
-    channel: 0,
-    offset: 1,
-};
+const FIRST: SourceByte = source!(0, 1);
 
-const THIRD: SourceByte = SourceByte {
-    channel: 0,
-    offset: 3,
-};
+const THIRD: SourceByte = source!(0, 3);
 
-const SECOND: SourceByte = SourceByte {
-    channel: 0,
-    offset: 2,
-};
+const SECOND: SourceByte = source!(0, 2);
 
-const FOURTH: SourceByte = SourceByte {
-    channel: 0,
-    offset: 4,
-};
+const FOURTH: SourceByte = source!(0, 4);
 
 const X5: Loc = Loc::Reg { number: 5, lane: 0 };
 

@@ -10,10 +10,7 @@ use std::process::Abort;
 
 /// An output byte, a lane, an address, a point and a pc, a blank after each.
 fn push_names(rt: &impl Abort, out: &mut Vec<u8>) {
-    let loc = Loc::Reg {
-        number: 31,
-        lane: 3,
-    };
+    let loc = lane!(31, 3);
     push_byte(out, 15, 4294967295).expect(rt, "memory");
     out.push(b' ').expect(rt, "memory");
     push_location(out, loc).expect(rt, "memory");
@@ -22,14 +19,7 @@ fn push_names(rt: &impl Abort, out: &mut Vec<u8>) {
     out.push(b' ').expect(rt, "memory");
     push_point(out, SinkPoint::At(InnerSink { time: 6, loc })).expect(rt, "memory");
     out.push(b' ').expect(rt, "memory");
-    push_point(
-        out,
-        SinkPoint::Out(SinkByte {
-            channel: 1,
-            offset: 0,
-        }),
-    )
-    .expect(rt, "memory");
+    push_point(out, output!(1, 0)).expect(rt, "memory");
     out.push(b' ').expect(rt, "memory");
     push_pc(out, 0x8001_0a0c).expect(rt, "memory");
 }
@@ -67,10 +57,7 @@ const BYTES: &[(u8, u32, &str)] = &[
 
 #[test]
 fn a_name_goes_to_the_next_byte(rt: HostRuntime) {
-    let mut name = SourceName::new(SourceByte {
-        channel: 0,
-        offset: 7,
-    });
+    let mut name = SourceName::new(source!(0, 7));
     assert_same(&rt, name.as_bytes(), b" 0:7".as_slice());
     for &(channel, offset, text) in BYTES {
         name.go_to(SourceByte { channel, offset });

@@ -4,7 +4,7 @@ ghost use Rattle.std.specs.Prelude.{◌≡◌};
 
 use crate::asserts::assert_same;
 use crate::source_ranges_tests::BYTES;
-use flow_model::{InnerSink, Loc, SinkByte, SinkPoint, SourceByte};
+use flow_model::{Loc, SinkPoint, SourceByte};
 use range_report::shown;
 use replay_log::{Log, read_log};
 use sink_collect::{Report, SinkSet, gather};
@@ -25,10 +25,7 @@ const LOG: &[u8] = b"JETLOG1\n\0\0\0\0\0\0\0\0\0\0\0\0\0\0\0\0\0\0\0\0\0\0\0\0\0
     \x05\x19\0\0\0\x2c\x01\0\0";
 
 /// The first byte of channel 3.
-const OTHER: SourceByte = SourceByte {
-    channel: 3,
-    offset: 0,
-};
+const OTHER: SourceByte = source!(3, 0);
 
 /// Where a row came from.
 #[derive(Clone, Copy)]
@@ -62,46 +59,19 @@ fn set(rt: &impl Abort, alloc: Global, sink: SinkPoint, from: From) -> SinkSet
 
 /// The output bytes of channel 1, and the first of channel 2.
 const OUT: [SinkPoint; 6] = [
-    SinkPoint::Out(SinkByte {
-        channel: 1,
-        offset: 0,
-    }),
-    SinkPoint::Out(SinkByte {
-        channel: 1,
-        offset: 1,
-    }),
-    SinkPoint::Out(SinkByte {
-        channel: 1,
-        offset: 2,
-    }),
-    SinkPoint::Out(SinkByte {
-        channel: 1,
-        offset: 3,
-    }),
-    SinkPoint::Out(SinkByte {
-        channel: 1,
-        offset: 4,
-    }),
-    SinkPoint::Out(SinkByte {
-        channel: 2,
-        offset: 0,
-    }),
+    output!(1, 0),
+    output!(1, 1),
+    output!(1, 2),
+    output!(1, 3),
+    output!(1, 4),
+    output!(2, 0),
 ];
 
 /// The last byte of x10 after six steps.
-const LANE: SinkPoint = SinkPoint::At(InnerSink {
-    time: 6,
-    loc: Loc::Reg {
-        number: 10,
-        lane: 3,
-    },
-});
+const LANE: SinkPoint = inside!(lane!(10, 3), 6);
 
 /// A byte of memory at the same time.
-const PLACE: SinkPoint = SinkPoint::At(InnerSink {
-    time: 6,
-    loc: Loc::Mem { place: 65792 },
-});
+const PLACE: SinkPoint = inside!(Loc::Mem { place: 65792 }, 6);
 
 /// Moved bytes, one from three, one without a source, one from another channel, one on another channel, and points.
 fn all_kinds(rt: &impl Abort, alloc: Global) -> Report {

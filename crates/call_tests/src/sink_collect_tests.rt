@@ -4,7 +4,7 @@ ghost use Rattle.std.specs.Prelude.{◌≡◌};
 ghost use Rattle.report_model.specs.Text.{report_text};
 
 use crate::asserts::assert_same;
-use flow_model::{InnerSink, Loc, SinkByte, SinkPoint, SourceByte};
+use flow_model::{Loc, SinkPoint, SourceByte};
 use memory_outside::MemorySink;
 use outer_io::{Buffer, InPieces, Pieces, write_in_pieces};
 use query_lang::{Query, parse};
@@ -20,10 +20,7 @@ use std::process::Abort;
 fn set(rt: &impl Abort, alloc: Global, sink: SinkPoint, source: Option<u32>) -> SinkSet
     ensures { result.sink ≡ sink }
 {
-    let last = SourceByte {
-        channel: 15,
-        offset: 2,
-    };
+    let last = source!(15, 2);
     let sources = match source {
         Some(offset) => SourceSet::of(alloc, &[SourceByte { channel: 0, offset }, last]),
         None => SourceSet::of(alloc, &[]),
@@ -31,35 +28,17 @@ fn set(rt: &impl Abort, alloc: Global, sink: SinkPoint, source: Option<u32>) -> 
     SinkSet::new(sink, sources.expect(rt, "memory"))
 }
 
-const EARLY: SinkPoint = SinkPoint::Out(SinkByte {
-    channel: 1,
-    offset: 70000,
-});
+const EARLY: SinkPoint = output!(1, 70000);
 
-const NINTH: SinkPoint = SinkPoint::Out(SinkByte {
-    channel: 2,
-    offset: 9,
-});
+const NINTH: SinkPoint = output!(2, 9);
 
-const TENTH: SinkPoint = SinkPoint::Out(SinkByte {
-    channel: 2,
-    offset: 10,
-});
+const TENTH: SinkPoint = output!(2, 10);
 
 /// The last byte of x10 after six steps.
-const LANE: SinkPoint = SinkPoint::At(InnerSink {
-    time: 6,
-    loc: Loc::Reg {
-        number: 10,
-        lane: 3,
-    },
-});
+const LANE: SinkPoint = inside!(lane!(10, 3), 6);
 
 /// A byte of memory at the same time.
-const PLACE: SinkPoint = SinkPoint::At(InnerSink {
-    time: 6,
-    loc: Loc::Mem { place: 65792 },
-});
+const PLACE: SinkPoint = inside!(Loc::Mem { place: 65792 }, 6);
 
 /// The report of five sets that come in another order.
 fn report(rt: &impl Abort, alloc: Global) -> Report {
@@ -92,20 +71,7 @@ fn rows_come_in_their_order(rt: HostRuntime) {
 
 /// The bytes 7 and 8 of channel 0, and byte 2 of channel 15: two ranges, of which the rows cut the first.
 fn chosen(rt: &impl Abort, alloc: Global) -> SourceSet {
-    let bytes = [
-        SourceByte {
-            channel: 0,
-            offset: 7,
-        },
-        SourceByte {
-            channel: 0,
-            offset: 8,
-        },
-        SourceByte {
-            channel: 15,
-            offset: 2,
-        },
-    ];
+    let bytes = [source!(0, 7), source!(0, 8), source!(15, 2)];
     SourceSet::of(alloc, &bytes).expect(rt, "memory")
 }
 

@@ -6,26 +6,11 @@ use source_ranges::{SourceSet, push_range, ranges_of};
 
 /// Offsets 2 and 3, 6 and the last that there is, of channel 0, and offset 7 of channel 1.
 pub const BYTES: [SourceByte; 5] = [
-    SourceByte {
-        channel: 0,
-        offset: 2,
-    },
-    SourceByte {
-        channel: 0,
-        offset: 3,
-    },
-    SourceByte {
-        channel: 0,
-        offset: 6,
-    },
-    SourceByte {
-        channel: 0,
-        offset: 4294967295,
-    },
-    SourceByte {
-        channel: 1,
-        offset: 7,
-    },
+    source!(0, 2),
+    source!(0, 3),
+    source!(0, 6),
+    source!(0, 4294967295),
+    source!(1, 7),
 ];
 
 #[test]

@@ -1,7 +1,6 @@
 //! Runs of source bytes.
 
 use crate::asserts::assert_same;
-use flow_model::SourceByte;
 use source_runs::{SourceRun, normalise};
 use std::alloc::Global;
 use std::process::Abort;
@@ -13,10 +12,7 @@ const BYTES: &[(u8, u32)] = &[(0, 6), (1, 7), (0, 4), (0, 9), (0, 5), (0, 4), (1
 fn runs(rt: &impl Abort, alloc: Global, bytes: &[(u8, u32)]) -> Vec<SourceRun> {
     let mut runs = Vec::new(alloc);
     for (channel, offset) in bytes {
-        let byte = SourceByte {
-            channel: *channel,
-            offset: *offset,
-        };
+        let byte = source!(*channel, *offset);
         runs.push(SourceRun::of_byte(byte)).expect(rt, "memory");
     }
     runs
@@ -34,35 +30,15 @@ fn runs_in_any_order_are_a_set(rt: HostRuntime) {
     assert!(rt; all.as_slice() == sorted.as_slice());
 }
 
-pub const UP_TO_3: SourceRun = SourceRun {
-    channel: 0,
-    first: 1,
-    last: 3,
-};
+pub const UP_TO_3: SourceRun = run!(0, 1, 3);
 
-pub const FROM_3: SourceRun = SourceRun {
-    channel: 0,
-    first: 3,
-    last: 4,
-};
+pub const FROM_3: SourceRun = run!(0, 3, 4);
 
-const UP_TO_4: SourceRun = SourceRun {
-    channel: 0,
-    first: 1,
-    last: 4,
-};
+const UP_TO_4: SourceRun = run!(0, 1, 4);
 
-const LATER: SourceRun = SourceRun {
-    channel: 0,
-    first: 6,
-    last: 6,
-};
+const LATER: SourceRun = run!(0, 6, 6);
 
-const OTHER_CHANNEL: SourceRun = SourceRun {
-    channel: 1,
-    first: 7,
-    last: 9,
-};
+const OTHER_CHANNEL: SourceRun = run!(1, 7, 9);
 
 #[test]
 fn normalised_runs_are_those_of_their_bytes(rt: HostRuntime) {

@@ -25,17 +25,22 @@ mod show;
 
 use guest_assembler::{Instr, code};
 use guests::{
-    ADD_WORDS, COPY_FOUR, Guest, LESS_THAN, LOAD_SIGNED, LOAD_UNSIGNED, LOOK_UP, MASK_AND_SHIFT,
-    MULTIPLY_WORDS, OVERWRITE, UNALIGNED, XOR_WORDS,
+    ADD_WORDS, BUFFER, COPY_CODE, COPY_FOUR, Guest, LESS_THAN, LOAD_SIGNED, LOAD_UNSIGNED, LOOK_UP,
+    MASK_AND_SHIFT, MULTIPLY_WORDS, OVERWRITE, UNALIGNED, XOR_WORDS,
 };
 use jet_cli::jet;
 use memory_outside::{ListClock, MemoryFile, MemorySink, MemoryStore};
 use outer_io::{Gate, OpenGate, Sink, Store};
+use runs::COPIES;
 use sha2::{Digest, Sha256};
-use std::alloc::Global;
 use std::process::Abort;
 use std::sync::Wait;
 use std::thread::Threads;
+
+/// What the commands and these tests ask of the machine.
+trait Runtime: Threads + Wait + Sync + AllocGlobal + Abort {}
+
+impl<R: Threads + Wait + Sync + AllocGlobal + Abort> Runtime for R {}
 
 const COPY: &str = "rule copy\nsource all\nsink all\n";
 
@@ -48,25 +53,13 @@ const INDEX: &str = "rule index\nsource all\nsink all\n";
 /// The report of the four-byte copy.
 const COPIED: &str = "1:0 0:0\n1:1 0:1\n1:2 0:2\n1:3 0:3\nend 4\n";
 
-/// The words of a command, of which the first is the program's name.
-type Line = &'static [&'static str];
+/// The words of a command, of which the first is the program's name, with a blank between two.
+type Line = &'static str;
 
-const QUERY: Line = &["jet", "query", "prog", "log", "query"];
+const QUERY: Line = "jet query prog log query";
 
 /// The same with one step in each epoch, many workers and the smallest links.
-const BY_STEPS: Line = &[
-    "jet",
-    "query",
-    "prog",
-    "log",
-    "query",
-    "--epoch",
-    "1",
-    "--workers",
-    "8",
-    "--link",
-    "1",
-];
+const BY_STEPS: Line = "jet query prog log query --epoch 1 --workers 8 --link 1";
 
 /// The time that the clock tells.
 const TIME: u64 = 0x1_0000_0002;
@@ -78,13 +71,13 @@ const NEVER: u64 = 1 << 40;
 const BASE: u32 = 0x10000;
 
 /// The program file of this code.
-fn program(rt: &impl Abort, alloc: Global, code: &[Instr]) -> Vec<u8> {
-    guest_assembler::program(alloc, code).expect(rt, "memory")
+fn program(rt: &impl Runtime, code: &[Instr]) -> Vec<u8> {
+    guest_assembler::program(rt.alloc(), code).expect(rt, "memory")
 }
 
 /// These bytes, owned.
-fn owned(rt: &impl Abort, alloc: Global, bytes: &[u8]) -> Vec<u8> {
-    bytes.to_vec(alloc).expect(rt, "memory")
+fn owned(rt: &impl Runtime, bytes: &[u8]) -> Vec<u8> {
+    bytes.to_vec(rt.alloc()).expect(rt, "memory")
 }
 
 fn push(rt: &impl Abort, out: &mut Vec<u8>, bytes: &[u8]) {
@@ -105,32 +98,11 @@ const NO_INSTRUCTION: Instr = Instr::Addi {
 };
 
 /// The header of a log whose first line is this.
-fn header(
-    rt: &impl Abort,
-    alloc: Global,
-    magic: &[u8],
-    program: &[u8],
-    pages: u32,
-    inputs: u32,
-) -> Vec<u8> {
-    let mut out = Vec::new(alloc);
+fn header(rt: &impl Runtime, magic: &[u8], program: &[u8], pages: u32, inputs: u32) -> Vec<u8> {
+    let mut out = Vec::new(rt.alloc());
     push(rt, &mut out, magic);
     push(rt, &mut out, &Sha256::digest(program));
     push_words(rt, &mut out, [pages, inputs].as_slice());
-    out
-}
-
-/// The header of a log in version 1 and these records.
-fn log(
-    rt: &impl Abort,
-    alloc: Global,
-    program: &[u8],
-    pages: u32,
-    inputs: u32,
-    records: &[u8],
-) -> Vec<u8> {
-    let mut out = header(rt, alloc, b"JETLOG1\n", program, pages, inputs);
-    push(rt, &mut out, records);
     out
 }
 
@@ -151,83 +123,19 @@ fn push_tag(rt: &impl Abort, out: &mut Vec<u8>, version: Version, tag: u8, at: u
     }
 }
 
-/// The record of a read (tag 1) or a write (tag 2), with its bytes in version 1.
-fn push_transfer(
-    rt: &impl Abort,
-    out: &mut Vec<u8>,
-    tag: u8,
-    at: u32,
-    args: [u32; 3],
-    bytes: &[u8],
-) {
-    push_moved(rt, out, Version::One, tag, at, args, bytes.len());
-    push(rt, out, bytes);
-}
-
-/// The fields of a read or a write that moved so many bytes.
-fn push_moved(
-    rt: &impl Abort,
-    out: &mut Vec<u8>,
-    version: Version,
-    tag: u8,
-    at: u32,
-    args: [u32; 3],
-    length: usize,
-) {
-    push_tag(rt, out, version, tag, at);
-    let [channel, address, asked] = args;
-    let length = u32::try_from(length).unwrap_or(0);
-    push_words(rt, out, [channel, address, asked, length].as_slice());
-}
-
 /// The program file of a guest. A table's field costs the proof more than a guest that is lent.
-fn program_of(rt: &impl Abort, alloc: Global, guest: &Guest) -> Vec<u8> {
-    program(rt, alloc, guest.code)
+fn program_of(rt: &impl Runtime, guest: &Guest) -> Vec<u8> {
+    program(rt, guest.code)
 }
 
-/// The log of a guest's run in one page, with these bytes written.
-fn log_with(
-    rt: &impl Abort,
-    alloc: Global,
-    guest: &Guest,
-    program: &[u8],
-    written: &[u8],
-) -> Vec<u8> {
-    let records = records(rt, alloc, guest, written);
-    log(rt, alloc, program, guest.pages, 1, &records)
-}
-
-/// The records of a guest's run, with these bytes written.
-fn records(rt: &impl Abort, alloc: Global, guest: &Guest, written: &[u8]) -> Vec<u8> {
-    let mut out = Vec::new(alloc);
-    let (read, write) = (&guest.read, &guest.write);
-    push_transfer(
-        rt,
-        &mut out,
-        1,
-        read.at,
-        [0, read.place, read.asked],
-        read.bytes,
-    );
-    push_transfer(
-        rt,
-        &mut out,
-        2,
-        write.at,
-        [1, write.place, write.asked],
-        written,
-    );
-    push(rt, &mut out, &[5]);
-    push_words(rt, &mut out, [guest.exit, 0].as_slice());
-    out
-}
-
-/// A record of a log, or its end. All transfers are with the buffer at 0x10100.
+/// A record of a log, or its end.
 #[derive(Clone, Copy)]
 enum Entry {
-    /// The step, the channel, the length asked for, and the bytes.
+    /// The step, the channel, the length asked for, and the bytes. The buffer is that of the guests.
     Read(u32, u32, u32, &'static [u8]),
     Write(u32, u32, u32, &'static [u8]),
+    /// The tag of a read (1) or a write (2), the step, the channel, the place of the buffer, the length asked for, and the bytes.
+    Moved(u8, u32, [u32; 3], &'static [u8]),
     /// The tag, the step, the channel and the length of a read or a write that failed with -9.
     Refused(u8, u32, u32, u32),
     /// The step, and the time that was told.
@@ -242,18 +150,20 @@ enum Entry {
     Limit(u32),
 }
 
-/// A read or a write with the buffer at 0x10100.
-fn push_bytes(
+/// A read (tag 1) or a write (tag 2) of a channel, a place and a length.
+fn push_moved(
     rt: &impl Abort,
     out: &mut Vec<u8>,
     version: Version,
     tag: u8,
-    step: (u32, u32, u32),
+    at: u32,
+    args: [u32; 3],
     bytes: &[u8],
 ) {
-    let (at, channel, asked) = step;
-    let args = [channel, 0x10100, asked];
-    push_moved(rt, out, version, tag, at, args, bytes.len());
+    let [channel, address, asked] = args;
+    let length = u32::try_from(bytes.len()).unwrap_or(0);
+    let fields = [channel, address, asked, length];
+    push_fields(rt, out, version, tag, at, fields.as_slice());
     match (version, tag) {
         (Version::Two, 1) => {}
         _ => push(rt, out, bytes),
@@ -276,13 +186,14 @@ fn push_fields(
 fn push_entry(rt: &impl Abort, out: &mut Vec<u8>, version: Version, entry: Entry) {
     match entry {
         Entry::Read(at, channel, asked, bytes) => {
-            push_bytes(rt, out, version, 1, (at, channel, asked), bytes)
+            push_moved(rt, out, version, 1, at, [channel, BUFFER, asked], bytes)
         }
         Entry::Write(at, channel, asked, bytes) => {
-            push_bytes(rt, out, version, 2, (at, channel, asked), bytes)
+            push_moved(rt, out, version, 2, at, [channel, BUFFER, asked], bytes)
         }
+        Entry::Moved(tag, at, args, bytes) => push_moved(rt, out, version, tag, at, args, bytes),
         Entry::Refused(tag, at, channel, asked) => {
-            let fields = [channel, 0x10100, asked, 0xffff_fff7];
+            let fields = [channel, BUFFER, asked, 0xffff_fff7];
             push_fields(rt, out, version, tag, at, fields.as_slice())
         }
         Entry::Time(at, time) => {
@@ -304,14 +215,13 @@ fn push_entries(rt: &impl Abort, out: &mut Vec<u8>, version: Version, entries: &
 
 /// A log of these records in version 1.
 fn log_of(
-    rt: &impl Abort,
-    alloc: Global,
+    rt: &impl Runtime,
     program: &[u8],
     pages: u32,
     inputs: u32,
     entries: &[Entry],
 ) -> Vec<u8> {
-    let mut out = header(rt, alloc, b"JETLOG1\n", program, pages, inputs);
+    let mut out = header(rt, b"JETLOG1\n", program, pages, inputs);
     push_entries(rt, &mut out, Version::One, entries);
     out
 }
@@ -321,15 +231,14 @@ type Channels = &'static [&'static [u8]];
 
 /// A log of these records in version 2.
 fn wide_log_of(
-    rt: &impl Abort,
-    alloc: Global,
+    rt: &impl Runtime,
     program: &[u8],
     pages: u32,
     channels: Channels,
     entries: &[Entry],
 ) -> Vec<u8> {
     let inputs = u32::try_from(channels.len()).unwrap_or(0);
-    let mut out = header(rt, alloc, b"JETLOG2\n", program, pages, inputs);
+    let mut out = header(rt, b"JETLOG2\n", program, pages, inputs);
     for bytes in channels {
         push_channel(rt, &mut out, bytes);
     }
@@ -347,8 +256,8 @@ fn push_channel(rt: &impl Abort, out: &mut Vec<u8>, bytes: &[u8]) {
 type Patch = (usize, &'static [u8]);
 
 /// The bytes, with others from an offset on.
-fn patched(rt: &impl Abort, alloc: Global, bytes: &[u8], patch: Patch) -> Vec<u8> {
-    let mut changed = owned(rt, alloc, bytes);
+fn patched(rt: &impl Runtime, bytes: &[u8], patch: Patch) -> Vec<u8> {
+    let mut changed = owned(rt, bytes);
     let (offset, patch) = patch;
     for (i, byte) in patch.iter().enumerate() {
         let place = offset.wrapping_add(i);
@@ -360,24 +269,18 @@ fn patched(rt: &impl Abort, alloc: Global, bytes: &[u8], patch: Patch) -> Vec<u8
 }
 
 /// Adds a file.
-fn push_file(rt: &impl Abort, files: &mut Vec<MemoryFile>, name: &str, bytes: &[u8]) {
+fn push_file(rt: &impl Runtime, files: &mut Vec<MemoryFile>, name: &str, bytes: &[u8]) {
     let alloc = *files.allocator();
     let file = MemoryFile {
         name: String::from_str(alloc, name).expect(rt, "memory"),
-        bytes: owned(rt, alloc, bytes),
+        bytes: owned(rt, bytes),
     };
     files.push(file).expect(rt, "memory");
 }
 
 /// The files `prog`, `log` and `query`.
-fn files(
-    rt: &impl Abort,
-    alloc: Global,
-    program: &[u8],
-    log: &[u8],
-    query: &[u8],
-) -> Vec<MemoryFile> {
-    let mut files = Vec::new(alloc);
+fn files(rt: &impl Runtime, program: &[u8], log: &[u8], query: &[u8]) -> Vec<MemoryFile> {
+    let mut files = Vec::new(rt.alloc());
     push_file(rt, &mut files, "prog", program);
     push_file(rt, &mut files, "log", log);
     push_file(rt, &mut files, "query", query);
@@ -387,8 +290,7 @@ fn files(
 /// A store of these files, of which the call of this number fails. Its calls move so many bytes, and there is room for files of so
 /// many to be written.
 fn store_of(
-    rt: &impl Abort,
-    alloc: Global,
+    rt: &impl Runtime,
     files: Vec<MemoryFile>,
     failing: u64,
     piece: usize,
@@ -396,14 +298,39 @@ fn store_of(
 ) -> MemoryStore
     requires { 0 < piece }
 {
+    let alloc = rt.alloc();
     let failing = [failing].as_slice().to_vec(alloc).expect(rt, "memory");
     MemoryStore::new(alloc, files, failing, piece, room).expect(rt, "memory")
 }
 
+/// A store of a program, a log and a query, of which the call of this number fails, as in [`store_of`].
+fn store_with(
+    rt: &impl Runtime,
+    program: &[u8],
+    log: &[u8],
+    query: &[u8],
+    failing: u64,
+    piece: usize,
+    room: usize,
+) -> MemoryStore
+    requires { 0 < piece }
+{
+    let files = files(rt, program, log, query);
+    store_of(rt, files, failing, piece, room)
+}
+
+/// The program and the log of the four-byte copy.
+fn copied(rt: &impl Runtime) -> (Vec<u8>, Vec<u8>) {
+    let program = program(rt, COPY_CODE);
+    let log = log_of(rt, &program, 1, 1, COPIES);
+    (program, log)
+}
+
 /// The words of a line, owned.
-fn words(rt: &impl Abort, alloc: Global, line: Line) -> Vec<String> {
+fn words(rt: &impl Runtime, line: Line) -> Vec<String> {
+    let alloc = rt.alloc();
     let mut words = Vec::new(alloc);
-    for word in line {
+    for word in line.split_whitespace() {
         let word = String::from_str(alloc, word).expect(rt, "memory");
         words.push(word).expect(rt, "memory");
     }
@@ -428,6 +355,15 @@ impl Ending<'_> {
         }
     }
 
+    /// This was written where the status is 0, and else the command was refused with this line.
+    fn of(status: u8, text: &str) -> Ending<'_> {
+        if status == 0 {
+            Ending::report(text)
+        } else {
+            Ending::refusal(status, text)
+        }
+    }
+
     /// The command was refused with this line.
     fn refusal(status: u8, err: &str) -> Ending<'_> {
         Ending {
@@ -439,23 +375,22 @@ impl Ending<'_> {
 }
 
 /// The status of the command of these words, where this gate is told of its epochs.
-fn status_by<R: Threads + Wait + Sync + AllocGlobal + Abort, S: Store, O: Sink, E: Sink, G: Gate>(
-    rt: &R,
+fn status_by<S: Store, O: Sink, E: Sink, G: Gate>(
+    rt: &impl Runtime,
     line: Line,
     store: &mut S,
     out: &mut O,
     err: &mut E,
     gate: &G,
 ) -> u8 {
-    let alloc = rt.alloc();
-    let words = words(rt, alloc, line);
-    let mut clock = ListClock::new(alloc, [TIME].as_slice()).expect(rt, "memory");
+    let words = words(rt, line);
+    let mut clock = ListClock::new(rt.alloc(), [TIME].as_slice()).expect(rt, "memory");
     jet(rt, &words, store, out, err, &mut clock, gate)
 }
 
 /// The status of the command of these words.
-fn status_of<R: Threads + Wait + Sync + AllocGlobal + Abort, S: Store, O: Sink, E: Sink>(
-    rt: &R,
+fn status_of<S: Store, O: Sink, E: Sink>(
+    rt: &impl Runtime,
     line: Line,
     store: &mut S,
     out: &mut O,
@@ -465,8 +400,8 @@ fn status_of<R: Threads + Wait + Sync + AllocGlobal + Abort, S: Store, O: Sink, 
 }
 
 /// The command of these words ends so over this store and these outputs.
-fn assert_outside<R: Threads + Wait + Sync + AllocGlobal + Abort>(
-    rt: &R,
+fn assert_outside(
+    rt: &impl Runtime,
     line: Line,
     store: &mut MemoryStore,
     out: &mut MemorySink,
@@ -481,17 +416,18 @@ fn assert_outside<R: Threads + Wait + Sync + AllocGlobal + Abort>(
 }
 
 /// An output that takes at most so many bytes at a time, and fails at this put.
-fn sink(rt: &impl Abort, alloc: Global, put: u64, piece: usize) -> MemorySink
+fn sink(rt: &impl Runtime, put: u64, piece: usize) -> MemorySink
     requires { 0 < piece }
 {
+    let alloc = rt.alloc();
     let failing = [put].as_slice().to_vec(alloc).expect(rt, "memory");
     MemorySink::new(alloc, failing, piece, 70000).expect(rt, "memory")
 }
 
 /// The command of these words ends so over this store, where the output takes at most so many bytes at a time and fails at
 /// this put, and standard error takes single bytes and fails at that one.
-fn assert_puts<R: Threads + Wait + Sync + AllocGlobal + Abort>(
-    rt: &R,
+fn assert_puts(
+    rt: &impl Runtime,
     line: Line,
     store: &mut MemoryStore,
     put: u64,
@@ -501,59 +437,43 @@ fn assert_puts<R: Threads + Wait + Sync + AllocGlobal + Abort>(
 )
     requires { 0 < piece }
 {
-    let alloc = rt.alloc();
-    let mut out = sink(rt, alloc, put, piece);
-    let mut err = sink(rt, alloc, err_put, 1);
+    let mut out = sink(rt, put, piece);
+    let mut err = sink(rt, err_put, 1);
     assert_outside(rt, line, store, &mut out, &mut err, ending);
 }
 
 /// The command of these words ends so over this store.
-fn assert_ends<R: Threads + Wait + Sync + AllocGlobal + Abort>(
-    rt: &R,
-    line: Line,
-    store: &mut MemoryStore,
-    ending: Ending<'_>,
-) {
+fn assert_ends(rt: &impl Runtime, line: Line, store: &mut MemoryStore, ending: Ending<'_>) {
     assert_puts(rt, line, store, NEVER, 65536, NEVER, ending);
 }
 
 /// The command of these words ends so over these files.
-fn assert_command<R: Threads + Wait + Sync + AllocGlobal + Abort>(
-    rt: &R,
+fn assert_command(
+    rt: &impl Runtime,
     line: Line,
     program: &[u8],
     log: &[u8],
     query: &[u8],
     ending: Ending<'_>,
 ) {
-    let alloc = rt.alloc();
-    let files = files(rt, alloc, program, log, query);
-    let mut store = store_of(rt, alloc, files, NEVER, 65536, 0);
+    let mut store = store_with(rt, program, log, query, NEVER, 65536, 0);
     assert_ends(rt, line, &mut store, ending);
 }
 
 /// A query of these files ends so.
-fn assert_query<R: Threads + Wait + Sync + AllocGlobal + Abort>(
-    rt: &R,
-    program: &[u8],
-    log: &[u8],
-    query: &[u8],
-    ending: Ending<'_>,
-) {
+fn assert_query(rt: &impl Runtime, program: &[u8], log: &[u8], query: &[u8], ending: Ending<'_>) {
     assert_command(rt, QUERY, program, log, query, ending);
 }
 
+/// A query of all copied bytes of these files ends so.
+fn assert_copy(rt: &impl Runtime, program: &[u8], log: &[u8], ending: Ending<'_>) {
+    assert_query(rt, program, log, COPY.as_bytes(), ending);
+}
+
 /// A command over a guest's run and a query ends so.
-fn assert_guest<R: Threads + Wait + Sync + AllocGlobal + Abort>(
-    rt: &R,
-    line: Line,
-    guest: &Guest,
-    query: &str,
-    ending: Ending<'_>,
-) {
-    let alloc = rt.alloc();
-    let program = program_of(rt, alloc, guest);
-    let log = log_with(rt, alloc, guest, &program, guest.write.bytes);
+fn assert_guest(rt: &impl Runtime, line: Line, guest: &Guest, query: &str, ending: Ending<'_>) {
+    let program = program_of(rt, guest);
+    let log = log_of(rt, &program, guest.pages, 1, guest.entries);
     assert_command(rt, line, &program, &log, query.as_bytes(), ending);
 }
 
@@ -672,7 +592,8 @@ const COPY_MANY: [Instr; 20] = code![
 ];
 
 /// The report of that copy.
-fn report_of_many(rt: &impl Abort, alloc: Global) -> String {
+fn report_of_many(rt: &impl Runtime) -> String {
+    let alloc = rt.alloc();
     let mut report = String::new(alloc);
     for i in 0..5000u32 {
         let line = format!(in alloc; "1:{i} 0:{i}\n").expect(rt, "memory");
@@ -683,32 +604,33 @@ fn report_of_many(rt: &impl Abort, alloc: Global) -> String {
 }
 
 /// Its log.
-fn log_of_many(rt: &impl Abort, alloc: Global, program: &[u8]) -> Vec<u8> {
-    let mut bytes = Vec::new(alloc);
+fn log_of_many(rt: &impl Runtime, program: &[u8]) -> Vec<u8> {
+    let mut bytes = Vec::new(rt.alloc());
     for i in 0..5000u32 {
         push(rt, &mut bytes, &[(i % 256) as u8]);
     }
-    let mut records = Vec::new(alloc);
-    push_transfer(rt, &mut records, 1, 5, [0, 0x11000, 5000], &bytes);
-    push_transfer(rt, &mut records, 2, 25011, [1, 0x13000, 5000], &bytes);
-    push(rt, &mut records, &[5]);
-    push_words(rt, &mut records, [25014, 0].as_slice());
-    log(rt, alloc, program, 5, 1, &records)
+    let mut log = header(rt, b"JETLOG1\n", program, 5, 1);
+    let (version, length) = (Version::One, 5000);
+    push_moved(rt, &mut log, version, 1, 5, [0, 0x11000, length], &bytes);
+    push_moved(
+        rt,
+        &mut log,
+        version,
+        2,
+        25011,
+        [1, 0x13000, length],
+        &bytes,
+    );
+    push_entry(rt, &mut log, version, Entry::Exit(25014, 0));
+    log
 }
 
 /// Twenty-five thousand steps, and a report of 67,789 bytes.
 #[test]
 fn a_long_copy_is_followed(rt: HostRuntime) {
-    let alloc = rt.alloc();
-    let program = program(&rt, alloc, &COPY_MANY);
-    let log = log_of_many(&rt, alloc, &program);
-    let report = report_of_many(&rt, alloc);
+    let program = program(&rt, &COPY_MANY);
+    let log = log_of_many(&rt, &program);
+    let report = report_of_many(&rt);
     assert_eq!(rt; report.len(), 67789);
-    assert_query(
-        &rt,
-        &program,
-        &log,
-        COPY.as_bytes(),
-        Ending::report(&report),
-    );
+    assert_copy(&rt, &program, &log, Ending::report(&report));
 }

@@ -6,7 +6,7 @@ ghost use Rattle.pass_parts.specs.Ends.{fresh_end};
 ghost use Rattle.epoch_node.specs.Cores.{core_of, CanStart};
 ghost use Rattle.epoch_node.specs.Keeping.{KeepsCore, fresh_traffic};
 
-use crate::guests::copy_four;
+use crate::guests::{COPY_FOUR, Runtime, job_of};
 use crate::runs::{COPY, cuts_of, query_of};
 use checkpoints::Checkpoints;
 use epoch_cut::{Cuts, EpochTicket};
@@ -15,7 +15,6 @@ use epoch_node::{Core, OpenGate, Phase};
 use flow_model::{Loc, Message, SourceByte};
 use query_lang::Query;
 use replayer::Job;
-use std::alloc::Global;
 use std::marker::Model;
 use std::process::Abort;
 
@@ -23,11 +22,11 @@ use std::process::Abort;
 const CAPACITY: u32 = 16;
 
 /// A link that holds these messages, where there is a neighbour that sends them.
-fn inlet(rt: &impl Abort, alloc: Global, messages: Option<&[Message]>) -> Option<ListLink<Message>>
+fn inlet(rt: &impl Runtime, messages: Option<&[Message]>) -> Option<ListLink<Message>>
     ensures { option_map (λ l. l.got) result ≡ fresh_end (is_none messages.entry) }
 {
     let messages = messages?;
-    let mut link = ListLink::new(alloc, Capacity::of(CAPACITY)).expect(rt, "memory");
+    let mut link = ListLink::new(rt.alloc(), Capacity::of(CAPACITY)).expect(rt, "memory");
     for &message in messages {
         let Pushed::Done = link.push(message) else {
             rt.abort()
@@ -37,13 +36,13 @@ fn inlet(rt: &impl Abort, alloc: Global, messages: Option<&[Message]>) -> Option
 }
 
 /// A link that holds nothing, unless there is no neighbour to send to.
-fn outlet(rt: &impl Abort, alloc: Global, alone: bool) -> Option<ListLink<Message>>
+fn outlet(rt: &impl Runtime, alone: bool) -> Option<ListLink<Message>>
     ensures { option_map (λ l. l.sent) result ≡ fresh_end alone }
 {
     if alone {
         return None;
     }
-    Some(ListLink::new(alloc, Capacity::of(CAPACITY)).expect(rt, "memory"))
+    Some(ListLink::new(rt.alloc(), Capacity::of(CAPACITY)).expect(rt, "memory"))
 }
 
 /// The links of a core. Contracts see what it got and sent.
@@ -102,22 +101,21 @@ impl Case {
     }
 
     /// The links of its core, with all that its neighbours send.
-    fn links(&self, rt: &impl Abort, alloc: Global) -> Links
+    fn links(&self, rt: &impl Runtime) -> Links
         ensures { result ≡ fresh_traffic (is_none self.now.previous_answers) (is_none self.now.next_asks) }
     {
         Links {
-            ask_in: inlet(rt, alloc, self.next_asks),
-            ask_out: outlet(rt, alloc, self.is_first()),
-            answer_in: inlet(rt, alloc, self.previous_answers),
-            answer_out: outlet(rt, alloc, self.is_last()),
+            ask_in: inlet(rt, self.next_asks),
+            ask_out: outlet(rt, self.is_first()),
+            answer_in: inlet(rt, self.previous_answers),
+            answer_out: outlet(rt, self.is_last()),
         }
     }
 }
 
 /// The ticket of the epoch of a number, which begins at its checkpoint.
 fn ticket_of(
-    rt: &impl Abort,
-    alloc: Global,
+    rt: &impl Runtime,
     job: &Job,
     points: &Checkpoints<'_>,
     cuts: Cuts,
@@ -126,6 +124,7 @@ fn ticket_of(
     requires { points.now ≡ record { job = job.now; times = beginnings cuts } }
     ensures { CanStart points.now result }
 {
+    let alloc = rt.alloc();
     assert!(rt; number < cuts.count());
     let cursor = points.start(alloc, number).expect(rt, "memory");
     let mut tickets = cuts.tickets(alloc).expect(rt, "memory");
@@ -207,15 +206,16 @@ fn assert_done(rt: &impl Abort, core: Core<'_, OpenGate>, case: &Case) {
 }
 
 /// A new core sends and comes to what the case says.
-fn assert_case(rt: &impl Abort, alloc: Global, job: &Job, query: &Query, case: &Case) {
+fn assert_case(rt: &impl Runtime, job: &Job, query: &Query, case: &Case) {
+    let alloc = rt.alloc();
     let cuts = cuts_of(rt, job, case.length);
     let points = Checkpoints::take(alloc, job, &cuts).expect(rt, "memory");
-    let ticket = ticket_of(rt, alloc, job, &points, cuts, case.number);
+    let ticket = ticket_of(rt, job, &points, cuts, case.number);
     let (first, last) = (case.is_first(), case.is_last());
     let mut core = Core::new(alloc, ticket, &points, query, &OpenGate, first, last).expect(
         rt, "memory",
     );
-    let mut links = case.links(rt, alloc);
+    let mut links = case.links(rt);
     turn_all(&mut core, &mut links);
     assert_done(rt, core, case);
     assert_sent(rt, links.ask_out, case.asks);
@@ -340,10 +340,9 @@ const CASES: &[Case] = &[
 
 #[test]
 fn cores_send_what_is_due(rt: HostRuntime) {
-    let alloc = rt.alloc();
-    let job = copy_four(&rt, alloc);
-    let query = query_of(&rt, alloc, COPY);
+    let job = job_of(&rt, &COPY_FOUR);
+    let query = query_of(&rt, COPY);
     for case in CASES {
-        assert_case(&rt, alloc, &job, &query, case);
+        assert_case(&rt, &job, &query, case);
     }
 }

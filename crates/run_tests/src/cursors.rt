@@ -2,13 +2,12 @@
 
 ghost use Rattle.std.specs.Prelude.{◌≡◌};
 
-use crate::guests::copy_in_two;
+use crate::guests::{COPY_IN_TWO, Runtime, job_of};
 use crate::runs::cuts_of;
 use checkpoints::Checkpoints;
 use isa::Instr;
 use replayer::{Cursor, CursorState, Job, Next};
 use rv_decode::encode;
-use std::alloc::Global;
 use std::process::Abort;
 
 /// The word of an instruction that a run made.
@@ -34,22 +33,23 @@ fn assert_alike(rt: &impl Abort, first: &mut Cursor<'_>, second: &mut Cursor<'_>
 }
 
 /// The cursor of a job's state that was taken apart and put together.
-fn again<'a>(rt: &impl Abort, alloc: Global, cursor: &Cursor<'a>, job: &'a Job) -> Cursor<'a>
+fn again<'a>(rt: &impl Runtime, cursor: &Cursor<'a>, job: &'a Job) -> Cursor<'a>
     requires { cursor.now.job ≡ job.now }
     ensures { result ≡ cursor.now }
 {
-    let saved = cursor.save(alloc).expect(rt, "memory");
+    let saved = cursor.save(rt.alloc()).expect(rt, "memory");
     let (window, rest) = saved.apart();
     Cursor::from(job, CursorState::whole(window, rest))
 }
 
 /// The cursor at the beginning of an epoch goes on as the one that is made of what it saves.
-fn assert_goes_on(rt: &impl Abort, alloc: Global, job: &Job, number: u32) {
+fn assert_goes_on(rt: &impl Runtime, job: &Job, number: u32) {
+    let alloc = rt.alloc();
     let cuts = cuts_of(rt, job, 1);
     let points = Checkpoints::take(alloc, job, &cuts).expect(rt, "memory");
     assert!(rt; number < cuts.count());
     let mut cursor = points.start(alloc, number).expect(rt, "memory");
-    let mut other = again(rt, alloc, &cursor, job);
+    let mut other = again(rt, &cursor, job);
     if number % 2 == 1 {
         other.keep_decoded(alloc).expect(rt, "memory");
     }
@@ -60,9 +60,8 @@ fn assert_goes_on(rt: &impl Abort, alloc: Global, job: &Job, number: u32) {
 /// At each time a cursor is the one that is made of what it saves.
 #[test]
 fn a_saved_cursor_goes_on_alike(rt: HostRuntime) {
-    let alloc = rt.alloc();
-    let job = copy_in_two(&rt, alloc);
+    let job = job_of(&rt, &COPY_IN_TWO);
     for number in 0..18 {
-        assert_goes_on(&rt, alloc, &job, number);
+        assert_goes_on(&rt, &job, number);
     }
 }

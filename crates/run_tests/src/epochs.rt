@@ -4,7 +4,9 @@ ghost use Rattle.std.specs.Prelude.{◌≡◌, ◌≤◌, ◌<◌, length};
 ghost use Rattle.flow_model.specs.Ranges.{IsLocation};
 ghost use Rattle.epoch_summary.specs.Summaries.{summary_of};
 
-use crate::guests::{call_and_exit, copy_four, copy_in_two, copy_many, cut_off, trap};
+use crate::guests::{
+    CALL_AND_EXIT, COPY_FOUR, COPY_IN_TWO, CUT_OFF, Runtime, TRAP, copy_many, job_of,
+};
 use answer_sets::{Answers, rows};
 use checkpoints::Checkpoints;
 use epoch_cut::cuts;
@@ -18,14 +20,14 @@ use replayer::{Cursor, Job, Next};
 use seq_taint::sequential;
 use sink_collect::SinkSet;
 use source_runs::SourceRun;
-use std::alloc::Global;
 use std::process::Abort;
 
 /// The numbers of the epochs' first steps and how many pages are held, where the copy of four bytes is cut by a length.
-fn assert_beginnings(rt: &impl Abort, alloc: Global, length: u64, firsts: &[u64], held: u64)
+fn assert_beginnings(rt: &impl Runtime, length: u64, firsts: &[u64], held: u64)
     requires { 1 ≤ length }
 {
-    let job = copy_four(rt, alloc);
+    let alloc = rt.alloc();
+    let job = job_of(rt, &COPY_FOUR);
     let cuts = cuts(job.steps(), length).expect(rt, "few epochs");
     cut_times_are_cutting();
     let points = Checkpoints::take(alloc, &job, &cuts).expect(rt, "memory");
@@ -41,11 +43,10 @@ fn assert_beginnings(rt: &impl Abort, alloc: Global, length: u64, firsts: &[u64]
 
 #[test]
 fn epochs_begin_at_their_checkpoints(rt: HostRuntime) {
-    let alloc = rt.alloc();
-    assert_beginnings(&rt, alloc, 12, &[0], 1);
-    assert_beginnings(&rt, alloc, 6, &[0, 6], 2);
-    assert_beginnings(&rt, alloc, 5, &[0, 5, 10], 2);
-    assert_beginnings(&rt, alloc, 4, &[0, 4, 8], 2);
+    assert_beginnings(&rt, 12, &[0], 1);
+    assert_beginnings(&rt, 6, &[0, 6], 2);
+    assert_beginnings(&rt, 5, &[0, 5, 10], 2);
+    assert_beginnings(&rt, 4, &[0, 4, 8], 2);
 }
 
 /// The first of the buffer's bytes.
@@ -76,13 +77,7 @@ fn assert_read(rt: &impl Abort, reader: &TermsReader, runs: &[SourceRun], starts
 }
 
 /// A sink of the whole run's summary is a byte that is written, and comes from the one of its own offset that is read.
-fn assert_sink(
-    rt: &impl Abort,
-    alloc: Global,
-    summary: &Summary,
-    reader: &mut TermsReader,
-    offset: u32,
-) {
+fn assert_sink(rt: &impl Runtime, summary: &Summary, reader: &mut TermsReader, offset: u32) {
     let byte = SinkByte { channel: 1, offset };
     let source = SourceRun::of_byte(SourceByte { channel: 0, offset });
     let at = offset as usize;
@@ -90,7 +85,7 @@ fn assert_sink(
     assert!(rt; summary.sink(at) == SinkPoint::Out(byte));
     summary.sink_terms(reader, at).expect(rt, "memory");
     assert_read(rt, reader, &[source], &[]);
-    let mut ahead = TermsAhead::new(alloc);
+    let mut ahead = TermsAhead::new(rt.alloc());
     summary
         .sink_terms_ahead(&mut ahead, reader, at)
         .expect(rt, "memory");
@@ -98,12 +93,12 @@ fn assert_sink(
 }
 
 /// The summary is that of the whole run.
-fn assert_summary(rt: &impl Abort, alloc: Global, summary: &Summary) {
-    let mut reader = TermsReader::new(alloc);
+fn assert_summary(rt: &impl Runtime, summary: &Summary) {
+    let mut reader = TermsReader::new(rt.alloc());
     assert!(rt; summary.number() == 0);
     assert!(rt; summary.sink_count() == 4);
     for offset in 0..4 {
-        assert_sink(rt, alloc, summary, &mut reader, offset);
+        assert_sink(rt, summary, &mut reader, offset);
     }
     for (loc, runs, starts) in ENDS {
         summary.end_terms(&mut reader, loc).expect(rt, "memory");
@@ -113,15 +108,15 @@ fn assert_summary(rt: &impl Abort, alloc: Global, summary: &Summary) {
 
 #[test]
 fn an_epoch_is_analysed_by_itself(rt: HostRuntime) {
-    let alloc = rt.alloc();
-    let job = copy_four(&rt, alloc);
-    let query = parse(alloc, b"rule copy\nsource all\nsink all\n").expect(&rt, "a query");
-    let summary = analysed(&rt, alloc, &job, &query);
-    assert_summary(&rt, alloc, &summary);
+    let job = job_of(&rt, &COPY_FOUR);
+    let query = parse(rt.alloc(), b"rule copy\nsource all\nsink all\n").expect(&rt, "a query");
+    let summary = analysed(&rt, &job, &query);
+    assert_summary(&rt, &summary);
 }
 
 /// The summary of a run with one epoch, which the analysis of that epoch finds.
-fn analysed(rt: &impl Abort, alloc: Global, job: &Job, query: &Query) -> Summary {
+fn analysed(rt: &impl Runtime, job: &Job, query: &Query) -> Summary {
+    let alloc = rt.alloc();
     let cuts = cuts(job.steps(), job.steps().max(1)).expect(rt, "few epochs");
     let mut tickets = cuts.tickets(alloc).expect(rt, "memory");
     let Some(ticket) = tickets.pop() else {
@@ -135,8 +130,9 @@ fn analysed(rt: &impl Abort, alloc: Global, job: &Job, query: &Query) -> Summary
 }
 
 /// The rows that the analysis of that epoch comes to, which asks nothing.
-fn rows_of_one(rt: &impl Abort, alloc: Global, job: &Job, query: &Query) -> Vec<SinkSet> {
-    let summary = analysed(rt, alloc, job, query);
+fn rows_of_one(rt: &impl Runtime, job: &Job, query: &Query) -> Vec<SinkSet> {
+    let alloc = rt.alloc();
+    let summary = analysed(rt, job, query);
     let (asked, answers) = (Asked::new(alloc), Answers::new(alloc));
     let mut reader = TermsReader::new(alloc);
     rows(alloc, &mut reader, &summary, &asked, &answers).expect(rt, "memory")
@@ -149,10 +145,11 @@ fn assert_same_row(rt: &impl Abort, one: &SinkSet, other: &SinkSet) {
 }
 
 /// A watcher of this run's steps comes to the rows that the analysis of its one epoch comes to: so many.
-fn assert_watched(rt: &impl Abort, alloc: Global, job: &Job, query: &[u8], count: usize) {
+fn assert_watched(rt: &impl Runtime, job: &Job, query: &[u8], count: usize) {
+    let alloc = rt.alloc();
     assert!(rt; query.len() <= 4096);
     let query = parse(alloc, query).expect(rt, "a query");
-    let one = rows_of_one(rt, alloc, job, &query);
+    let one = rows_of_one(rt, job, &query);
     let other = sequential(alloc, job, &query).expect(rt, "memory");
     assert!(rt; one.len() == count);
     assert!(rt; other.len() == count);
@@ -169,11 +166,10 @@ sink reg 10 at 5\nsink reg 10 at 6\nsink mem 65792 4 at 6\nsink mem 65792 4 at 1
 
 #[test]
 fn a_watcher_comes_to_the_rows_of_one_epoch(rt: HostRuntime) {
-    let alloc = rt.alloc();
-    assert_watched(&rt, alloc, &copy_four(&rt, alloc), POINTS, 32);
-    assert_watched(&rt, alloc, &copy_in_two(&rt, alloc), POINTS, 33);
-    assert_watched(&rt, alloc, &call_and_exit(&rt, alloc), POINTS, 12);
-    assert_watched(&rt, alloc, &cut_off(&rt, alloc), POINTS, 16);
-    assert_watched(&rt, alloc, &trap(&rt, alloc), POINTS, 4);
-    assert_watched(&rt, alloc, &copy_many(&rt, alloc), POINTS, 5032);
+    assert_watched(&rt, &job_of(&rt, &COPY_FOUR), POINTS, 32);
+    assert_watched(&rt, &job_of(&rt, &COPY_IN_TWO), POINTS, 33);
+    assert_watched(&rt, &job_of(&rt, &CALL_AND_EXIT), POINTS, 12);
+    assert_watched(&rt, &job_of(&rt, &CUT_OFF), POINTS, 16);
+    assert_watched(&rt, &job_of(&rt, &TRAP), POINTS, 4);
+    assert_watched(&rt, &copy_many(&rt), POINTS, 5032);
 }

@@ -1,13 +1,11 @@
 //! Pages of queries over runs.
 
-use crate::guests::copy_four;
+use crate::guests::{COPY_FOUR, Runtime, job_of};
 use crate::runs::query_of;
 use page_data::{page, sources_of};
 use page_text::{push_head, push_tail};
 use seq_taint::sequential;
 use sink_collect::gather;
-use std::alloc::Global;
-use std::process::Abort;
 
 /// What a page of the copy of four bytes has of its rows: the output bytes go on from the first, and the points too.
 const ROWS: &str = "jet page 1\nrows\n1:0 0:0-1\n+++m:65792@8 0:0-1\n+";
@@ -22,10 +20,10 @@ const TOLD: &str =
     r 0 4 5\nw 1 4 8\nend 6\n";
 
 /// The page with these rows, this digest of the program, and what is told beside them.
-fn page_of(rt: &impl Abort, alloc: Global, rows: &str, digest: [u8; 32], told: &str) -> Vec<u8> {
+fn page_of(rt: &impl Runtime, rows: &str, digest: [u8; 32], told: &str) -> Vec<u8> {
     let mut digits = [0; 64];
     let _ = hex::encode_to_slice(digest.as_slice(), &mut digits);
-    let mut text = Vec::new(alloc);
+    let mut text = Vec::new(rt.alloc());
     push_head(&mut text).expect(rt, "memory");
     text.extend_from_slice(rows.as_bytes()).expect(rt, "memory");
     text.extend_from_slice(b"program ").expect(rt, "memory");
@@ -39,24 +37,23 @@ fn page_of(rt: &impl Abort, alloc: Global, rows: &str, digest: [u8; 32], told: &
 #[test]
 fn a_page_is_its_data_between_two_texts(rt: HostRuntime) {
     let alloc = rt.alloc();
-    let job = copy_four(&rt, alloc);
+    let job = job_of(&rt, &COPY_FOUR);
     let text = b"rule copy\nsource all\nsink all\nsink mem 65792 2 at 8\n";
-    let wanted = query_of(&rt, alloc, text.as_slice());
+    let wanted = query_of(&rt, text.as_slice());
     let sets = sequential(alloc, &job, &wanted).expect(&rt, "memory");
     let report = gather(alloc, sets).expect(&rt, "memory");
     let made = page(alloc, &job, &wanted, &report).expect(&rt, "memory");
     let digest = job.log().digest();
-    let expected = page_of(&rt, alloc, ROWS, digest, TOLD);
+    let expected = page_of(&rt, ROWS, digest, TOLD);
     assert!(rt; made.as_slice() == expected.as_slice());
 }
 
 #[test]
 fn chosen_bytes_that_were_received_are_sources(rt: HostRuntime) {
-    let alloc = rt.alloc();
-    let job = copy_four(&rt, alloc);
+    let job = job_of(&rt, &COPY_FOUR);
     let text = b"rule copy\nsource 0 1 3\nsource 1\nsource 0 2 9\n";
-    let wanted = query_of(&rt, alloc, text.as_slice());
-    let sources = sources_of(alloc, &job, &wanted).expect(&rt, "memory");
+    let wanted = query_of(&rt, text.as_slice());
+    let sources = sources_of(rt.alloc(), &job, &wanted).expect(&rt, "memory");
     let ranges = sources.ranges();
     assert!(rt; ranges.len() == 1);
     assert!(rt; ranges[0].channel == 0 && ranges[0].from == 1 && ranges[0].past == 4);

@@ -7,7 +7,9 @@ ghost use Rattle.epoch_model.specs.Cutting.{IsCutting};
 mod checked;
 mod gates;
 
-use crate::guests::{ROUND, copy_four, copy_in_two, copy_many, count_down, fill, trap};
+use crate::guests::{
+    COPY_FOUR, COPY_IN_TWO, COUNT_DOWN, FILL, ROUND, Runtime, TRAP, copy_many, job_of,
+};
 use checkpoints::Checkpoints;
 use epoch_cut::laws::cut_times_are_cutting;
 use epoch_cut::{Cuts, cuts};
@@ -19,10 +21,7 @@ use query_lang::{Query, parse};
 use replayer::Job;
 use seq_taint::sequential;
 use sink_collect::{Report, gather, text};
-use std::alloc::Global;
 use std::process::Abort;
-use std::sync::Wait;
-use std::thread::Threads;
 
 /// How many workers turn the epochs' nodes, and how many messages a link between two of them holds.
 #[derive(Clone, Copy)]
@@ -47,9 +46,9 @@ pub fn cuts_of(rt: &impl Abort, job: &Job, length: u64) -> Cuts
 }
 
 /// The query of a text.
-pub fn query_of(rt: &impl Abort, alloc: Global, text: &[u8]) -> Query {
+pub fn query_of(rt: &impl Runtime, text: &[u8]) -> Query {
     assert!(rt; text.len() <= 4096);
-    parse(alloc, text).expect(rt, "a query")
+    parse(rt.alloc(), text).expect(rt, "a query")
 }
 
 /// What a query answers: its report, what crosses the inner cuts, and how many events moved.
@@ -61,9 +60,8 @@ struct Answer {
 }
 
 /// What a query answers over a run that is cut by a length.
-fn answer_of<G: Gate, R: Threads + Wait + Abort + Sync>(
-    rt: &R,
-    alloc: Global,
+fn answer_of<G: Gate>(
+    rt: &impl Runtime,
     gate: &G,
     job: &Job,
     wanted: &Query,
@@ -75,7 +73,7 @@ fn answer_of<G: Gate, R: Threads + Wait + Abort + Sync>(
     assert!(rt; workers <= 64);
     let capacity = Capacity::new(capacity).expect(rt, "a capacity");
     let cuts = cuts_of(rt, job, length);
-    let found = query(rt, alloc, gate, job, wanted, cuts, workers, capacity);
+    let found = query(rt, rt.alloc(), gate, job, wanted, cuts, workers, capacity);
     let (report, crossed, events) = found.expect(rt, "memory");
     Answer {
         report,
@@ -86,8 +84,7 @@ fn answer_of<G: Gate, R: Threads + Wait + Abort + Sync>(
 
 /// The same by rounds on this thread, over links of a capacity.
 fn answer_by_rounds<G: Gate>(
-    rt: &impl Abort,
-    alloc: Global,
+    rt: &impl Runtime,
     gate: &G,
     job: &Job,
     wanted: &Query,
@@ -96,7 +93,7 @@ fn answer_by_rounds<G: Gate>(
 ) -> Answer {
     let capacity = Capacity::new(capacity).expect(rt, "a capacity");
     let cuts = cuts_of(rt, job, length);
-    let found = round_robin(alloc, gate, job, wanted, cuts, capacity);
+    let found = round_robin(rt.alloc(), gate, job, wanted, cuts, capacity);
     let (report, crossed, events) = found.expect(rt, "memory");
     Answer {
         report,
@@ -106,25 +103,20 @@ fn answer_by_rounds<G: Gate>(
 }
 
 /// The report where the epochs' summaries are joined by lists.
-fn joined_report<R: Threads + Abort + Sync>(
-    rt: &R,
-    alloc: Global,
-    job: &Job,
-    wanted: &Query,
-    length: u64,
-) -> Report {
-    joined(rt, alloc, job, wanted, cuts_of(rt, job, length)).expect(rt, "memory")
+fn joined_report(rt: &impl Runtime, job: &Job, wanted: &Query, length: u64) -> Report {
+    joined(rt, rt.alloc(), job, wanted, cuts_of(rt, job, length)).expect(rt, "memory")
 }
 
 /// The report where the run is analysed as a whole, one step after another.
-fn sequential_report(rt: &impl Abort, alloc: Global, job: &Job, wanted: &Query) -> Report {
+fn sequential_report(rt: &impl Runtime, job: &Job, wanted: &Query) -> Report {
+    let alloc = rt.alloc();
     let sets = sequential(alloc, job, wanted).expect(rt, "memory");
     gather(alloc, sets).expect(rt, "memory")
 }
 
 /// The report has this text.
-fn assert_text(rt: &impl Abort, alloc: Global, report: &Report, lines: &str) {
-    let written = text(alloc, report).expect(rt, "memory");
+fn assert_text(rt: &impl Runtime, report: &Report, lines: &str) {
+    let written = text(rt.alloc(), report).expect(rt, "memory");
     assert!(rt; written.as_slice() == lines.as_bytes());
 }
 
@@ -160,23 +152,23 @@ struct Case {
 }
 
 /// The answer has this report, these crossings, and as many events.
-fn assert_answer(rt: &impl Abort, alloc: Global, answer: &Answer, case: &Case) {
+fn assert_answer(rt: &impl Runtime, answer: &Answer, case: &Case) {
     assert!(rt; answer.events == case.events);
     assert_crossed(rt, &answer.crossed, case.crossed);
-    assert_text(rt, alloc, &answer.report, case.report);
+    assert_text(rt, &answer.report, case.report);
 }
 
 /// A query over a run has its report and its crossings by each call.
-fn assert_case<R: Threads + Wait + Abort + Sync>(rt: &R, alloc: Global, job: &Job, case: &Case) {
-    let wanted = query_of(rt, alloc, case.query);
-    let report = sequential_report(rt, alloc, job, &wanted);
-    assert_text(rt, alloc, &report, case.report);
-    let report = joined_report(rt, alloc, job, &wanted, case.length);
-    assert_text(rt, alloc, &report, case.report);
-    let found = answer_of(rt, alloc, &OpenGate, job, &wanted, case.length, ALONE);
-    assert_answer(rt, alloc, &found, case);
-    let found = answer_by_rounds(rt, alloc, &OpenGate, job, &wanted, case.length, 1);
-    assert_answer(rt, alloc, &found, case);
+fn assert_case(rt: &impl Runtime, job: &Job, case: &Case) {
+    let wanted = query_of(rt, case.query);
+    let report = sequential_report(rt, job, &wanted);
+    assert_text(rt, &report, case.report);
+    let report = joined_report(rt, job, &wanted, case.length);
+    assert_text(rt, &report, case.report);
+    let found = answer_of(rt, &OpenGate, job, &wanted, case.length, ALONE);
+    assert_answer(rt, &found, case);
+    let found = answer_by_rounds(rt, &OpenGate, job, &wanted, case.length, 1);
+    assert_answer(rt, &found, case);
 }
 
 /// Copies what it reads.
@@ -209,10 +201,9 @@ const POINTS: &[Case] = &[
 
 #[test]
 fn points_are_followed_by_epochs(rt: HostRuntime) {
-    let alloc = rt.alloc();
-    let job = copy_four(&rt, alloc);
+    let job = job_of(&rt, &COPY_FOUR);
     for case in POINTS {
-        assert_case(&rt, alloc, &job, case);
+        assert_case(&rt, &job, case);
     }
 }
 
@@ -227,8 +218,7 @@ const FIVE: Case = Case {
 
 #[test]
 fn bytes_come_from_several_epochs(rt: HostRuntime) {
-    let alloc = rt.alloc();
-    assert_case(&rt, alloc, &copy_in_two(&rt, alloc), &FIVE);
+    assert_case(&rt, &job_of(&rt, &COPY_IN_TWO), &FIVE);
 }
 
 /// A run of no step is one epoch.
@@ -242,8 +232,7 @@ const NONE: Case = Case {
 
 #[test]
 fn a_run_of_no_step_is_followed(rt: HostRuntime) {
-    let alloc = rt.alloc();
-    assert_case(&rt, alloc, &trap(&rt, alloc), &NONE);
+    assert_case(&rt, &job_of(&rt, &TRAP), &NONE);
 }
 
 /// The report of the copy of four bytes.
@@ -251,8 +240,8 @@ const COPIED: &str = "1:0 0:0\n1:1 0:1\n1:2 0:2\n1:3 0:3\nend 4\n";
 
 /// The copy of four bytes has its report, its crossings and its events where it is cut by a length: from their read to their write,
 /// the bytes are asked for, and each has one source byte.
-fn assert_copied(rt: &impl Abort, alloc: Global, found: &Answer, length: u64) {
-    assert_text(rt, alloc, &found.report, COPIED);
+fn assert_copied(rt: &impl Runtime, found: &Answer, length: u64) {
+    assert_text(rt, &found.report, COPIED);
     let mut events = 8u64;
     for crossing in &found.crossed {
         let count = match length.saturating_mul(u64::from(crossing.cut())) {
@@ -266,9 +255,8 @@ fn assert_copied(rt: &impl Abort, alloc: Global, found: &Answer, length: u64) {
 }
 
 /// By epochs of so many steps, and so many workers, the copy of four bytes has the same answers over links of each capacity.
-fn assert_copied_by_workers<R: Threads + Wait + Abort + Sync>(
-    rt: &R,
-    alloc: Global,
+fn assert_copied_by_workers(
+    rt: &impl Runtime,
     job: &Job,
     wanted: &Query,
     length: u64,
@@ -276,59 +264,51 @@ fn assert_copied_by_workers<R: Threads + Wait + Abort + Sync>(
 ) {
     for capacity in [1, 2, 256] {
         let line = Line { workers, capacity };
-        let found = answer_of(rt, alloc, &OpenGate, job, wanted, length, line);
-        assert_copied(rt, alloc, &found, length);
+        let found = answer_of(rt, &OpenGate, job, wanted, length, line);
+        assert_copied(rt, &found, length);
     }
 }
 
 /// The same by rounds.
-fn assert_copied_by_rounds(rt: &impl Abort, alloc: Global, job: &Job, wanted: &Query, length: u64) {
+fn assert_copied_by_rounds(rt: &impl Runtime, job: &Job, wanted: &Query, length: u64) {
     for capacity in [1, 2, 256] {
-        let found = answer_by_rounds(rt, alloc, &OpenGate, job, wanted, length, capacity);
-        assert_copied(rt, alloc, &found, length);
+        let found = answer_by_rounds(rt, &OpenGate, job, wanted, length, capacity);
+        assert_copied(rt, &found, length);
     }
 }
 
 /// By epochs of so many steps, the copy of four bytes has the same answers by each call, by every line and by rounds.
-fn assert_copied_by_all<R: Threads + Wait + Abort + Sync>(
-    rt: &R,
-    alloc: Global,
-    job: &Job,
-    wanted: &Query,
-    length: u64,
-) {
-    let report = joined_report(rt, alloc, job, wanted, length);
-    assert_text(rt, alloc, &report, COPIED);
+fn assert_copied_by_all(rt: &impl Runtime, job: &Job, wanted: &Query, length: u64) {
+    let report = joined_report(rt, job, wanted, length);
+    assert_text(rt, &report, COPIED);
     for workers in [1, 2, 8, 64] {
-        assert_copied_by_workers(rt, alloc, job, wanted, length, workers);
+        assert_copied_by_workers(rt, job, wanted, length, workers);
     }
-    assert_copied_by_rounds(rt, alloc, job, wanted, length);
+    assert_copied_by_rounds(rt, job, wanted, length);
 }
 
 /// How long an epoch is, how many workers there are and how many messages a link holds change nothing.
 #[test]
 fn answers_are_the_same_by_any_epochs_and_line(rt: HostRuntime) {
-    let alloc = rt.alloc();
-    let job = copy_four(&rt, alloc);
-    let wanted = query_of(&rt, alloc, COPY);
+    let job = job_of(&rt, &COPY_FOUR);
+    let wanted = query_of(&rt, COPY);
     for length in 1..=13 {
-        assert_copied_by_all(&rt, alloc, &job, &wanted, length);
+        assert_copied_by_all(&rt, &job, &wanted, length);
     }
-    assert_copied_by_all(&rt, alloc, &job, &wanted, 1_099_511_627_776);
+    assert_copied_by_all(&rt, &job, &wanted, 1_099_511_627_776);
 }
 
 /// A run of 4,097 steps by two each is cut into 2,049 epochs, and nothing crosses.
 #[test]
 fn thousands_of_epochs_are_followed(rt: HostRuntime) {
-    let alloc = rt.alloc();
-    let job = count_down(&rt, alloc);
-    let wanted = query_of(&rt, alloc, COPY);
+    let job = job_of(&rt, &COUNT_DOWN);
+    let wanted = query_of(&rt, COPY);
     let line = Line {
         workers: 4,
         capacity: 256,
     };
-    let found = answer_of(&rt, alloc, &OpenGate, &job, &wanted, 2, line);
-    assert_text(&rt, alloc, &found.report, "end 0\n");
+    let found = answer_of(&rt, &OpenGate, &job, &wanted, 2, line);
+    assert_text(&rt, &found.report, "end 0\n");
     assert!(rt; found.crossed.len() == 2048);
     assert!(rt; found.events == 12292);
     for crossing in &found.crossed {
@@ -374,31 +354,29 @@ fn assert_many_crossed(rt: &impl Abort, crossed: &[Crossed]) {
 
 #[test]
 fn a_long_run_is_analysed_as_a_whole(rt: HostRuntime) {
-    let alloc = rt.alloc();
-    let job = copy_many(&rt, alloc);
-    let wanted = query_of(&rt, alloc, COPY);
-    assert_many_copied(&rt, &sequential_report(&rt, alloc, &job, &wanted));
+    let job = copy_many(&rt);
+    let wanted = query_of(&rt, COPY);
+    assert_many_copied(&rt, &sequential_report(&rt, &job, &wanted));
 }
 
 #[test]
 fn a_long_run_is_joined(rt: HostRuntime) {
-    let alloc = rt.alloc();
-    let job = copy_many(&rt, alloc);
-    let wanted = query_of(&rt, alloc, COPY);
-    let report = joined_report(&rt, alloc, &job, &wanted, 1000);
+    let job = copy_many(&rt);
+    let wanted = query_of(&rt, COPY);
+    let report = joined_report(&rt, &job, &wanted, 1000);
     assert_many_copied(&rt, &report);
-    assert!(rt; text(alloc, &report).expect(&rt, "memory").len() == 67789);
+    assert!(rt; text(rt.alloc(), &report).expect(&rt, "memory").len() == 67789);
 }
 
 /// That run is followed by twenty-six epochs, which so many workers turn.
-fn assert_many_by<R: Threads + Wait + Abort + Sync>(rt: &R, alloc: Global, workers: u32) {
-    let job = copy_many(rt, alloc);
-    let wanted = query_of(rt, alloc, COPY);
+fn assert_many_by(rt: &impl Runtime, workers: u32) {
+    let job = copy_many(rt);
+    let wanted = query_of(rt, COPY);
     let line = Line {
         workers,
         capacity: 256,
     };
-    let found = answer_of(rt, alloc, &OpenGate, &job, &wanted, 1000, line);
+    let found = answer_of(rt, &OpenGate, &job, &wanted, 1000, line);
     assert_many_copied(rt, &found.report);
     assert!(rt; found.events == 880154);
     assert_many_crossed(rt, &found.crossed);
@@ -406,35 +384,37 @@ fn assert_many_by<R: Threads + Wait + Abort + Sync>(rt: &R, alloc: Global, worke
 
 #[test]
 fn a_long_run_is_followed_by_one_worker(rt: HostRuntime) {
-    assert_many_by(&rt, rt.alloc(), 1);
+    assert_many_by(&rt, 1);
 }
 
 #[test]
 fn a_long_run_is_followed_by_three_workers(rt: HostRuntime) {
-    assert_many_by(&rt, rt.alloc(), 3);
+    assert_many_by(&rt, 3);
 }
 
 #[test]
 fn a_long_run_is_followed_by_the_most_workers(rt: HostRuntime) {
-    assert_many_by(&rt, rt.alloc(), 64);
+    assert_many_by(&rt, 64);
 }
 
 /// Of the windows at the beginnings of its epochs the first has five pages. The two pages that are read to change once; those
 /// that are copied to change at 21 cuts and at 5.
 #[test]
 fn pages_are_held_once(rt: HostRuntime) {
-    let alloc = rt.alloc();
-    let job = copy_many(&rt, alloc);
+    let job = copy_many(&rt);
     assert!(rt; job.steps() == 25015);
-    let points = Checkpoints::take(alloc, &job, &cuts_of(&rt, &job, 1000)).expect(&rt, "memory");
+    let points = Checkpoints::take(rt.alloc(), &job, &cuts_of(&rt, &job, 1000)).expect(
+        &rt, "memory",
+    );
     assert!(rt; points.held() == 33);
 }
 
 /// Of a window of 4,096 pages all but the program's change in each of sixteen epochs.
 #[test]
 fn more_than_65_536_pages_are_held(rt: HostRuntime) {
-    let alloc = rt.alloc();
-    let job = fill(&rt, alloc);
-    let points = Checkpoints::take(alloc, &job, &cuts_of(&rt, &job, ROUND)).expect(&rt, "memory");
+    let job = job_of(&rt, &FILL);
+    let points = Checkpoints::take(rt.alloc(), &job, &cuts_of(&rt, &job, ROUND)).expect(
+        &rt, "memory",
+    );
     assert!(rt; points.held() == 4096 + 16 * 4095);
 }

@@ -1,11 +1,9 @@
 //! The calls in progress at times of runs, as text.
 
-use crate::guests::{breaks_at, copy_in_two};
+use crate::guests::{COPY_IN_TWO, Runtime, breaks_at, job_of};
 use guest_assembler::{Instr, code};
 use replayer::Job;
 use run_output::{stack_text, stacks_text};
-use std::alloc::Global;
-use std::process::Abort;
 
 /// A run, by the steps before it comes to EBREAK and the pc there, and the text of where it stands at some times.
 struct Case<'a> {
@@ -147,52 +145,54 @@ const SEVERAL: &str = "stack 2\n0x0001000c\n0x00010000\nend 2\n\
                        end 14\n";
 
 /// The run of a case, as a job.
-fn job_of(rt: &impl Abort, alloc: Global, case: &Case<'_>) -> Job {
-    breaks_at(rt, alloc, case.code, case.steps, case.pc)
+fn run_of(rt: &impl Runtime, case: &Case<'_>) -> Job {
+    breaks_at(rt, case.code, case.steps, case.pc)
 }
 
 /// The run of a job stands so.
-fn assert_stacks(rt: &impl Abort, alloc: Global, job: &Job, stacks: &[(u64, &str)]) {
+fn assert_stacks(rt: &impl Runtime, job: &Job, stacks: &[(u64, &str)]) {
     for (time, text) in stacks {
-        let told = stack_text(alloc, job, *time).expect(rt, "memory");
+        let told = stack_text(rt.alloc(), job, *time).expect(rt, "memory");
         assert_eq!(rt; told.as_slice(), text.as_bytes());
     }
 }
 
 /// So does that of a case.
-fn assert_case(rt: &impl Abort, alloc: Global, case: &Case<'_>) {
-    let job = job_of(rt, alloc, case);
-    assert_stacks(rt, alloc, &job, case.stacks);
+fn assert_case(rt: &impl Runtime, case: &Case<'_>) {
+    let job = run_of(rt, case);
+    assert_stacks(rt, &job, case.stacks);
 }
 
 #[test]
 fn calls_in_progress_are_told_innermost_first(rt: HostRuntime) {
-    let alloc = rt.alloc();
-    assert_case(&rt, alloc, &RECURSION);
-    assert_case(&rt, alloc, &TAIL_CALL);
-    assert_case(&rt, alloc, &LONG_RETURN);
-    assert_case(&rt, alloc, &RETURN_BEYOND);
-    assert_case(&rt, alloc, &COROUTINES);
-    assert_case(&rt, alloc, &FAR_CALL);
+    for case in [
+        &RECURSION,
+        &TAIL_CALL,
+        &LONG_RETURN,
+        &RETURN_BEYOND,
+        &COROUTINES,
+        &FAR_CALL,
+    ] {
+        assert_case(&rt, case);
+    }
 }
 
 /// After an exit the pc is that after its ECALL.
 #[test]
 fn a_run_that_exits_stands_after_its_last_call(rt: HostRuntime) {
-    let alloc = rt.alloc();
-    let job = copy_in_two(&rt, alloc);
+    let job = job_of(&rt, &COPY_IN_TWO);
     let stacks = [
         (17, "0x00010044\nend 1\n"),
         (18, "0x00010048\nend 1\n"),
         (19, "end 0\n"),
     ];
-    assert_stacks(&rt, alloc, &job, &stacks);
+    assert_stacks(&rt, &job, &stacks);
 }
 
 #[test]
 fn the_texts_of_several_times_stand_in_their_order(rt: HostRuntime) {
     let alloc = rt.alloc();
-    let job = job_of(&rt, alloc, &TAIL_CALL);
+    let job = run_of(&rt, &TAIL_CALL);
     let told = stacks_text(alloc, &job, &[2, 4, 1, 2]).expect(&rt, "memory");
     assert_eq!(rt; told.as_slice(), SEVERAL.as_bytes());
     let alone = stacks_text(alloc, &job, &[3]).expect(&rt, "memory");

@@ -1,16 +1,12 @@
 //! The workload's run: its numbers, and its limits.
 
-use super::{Ending, Line, assert_ends, store_of};
+use super::{Ending, Line, Runtime, assert_ends, store_of};
 use memory_outside::MemoryStore;
-use std::alloc::Global;
-use std::process::Abort;
-use std::sync::Wait;
-use std::thread::Threads;
 
 /// Words, and the lines that are printed. The counts and the digests were computed by another program.
 const NUMBERS: &[(Line, &str)] = &[
     (
-        &["jet", "bench", "1", "30", "--epoch", "15"],
+        "jet bench 1 30 --epoch 15",
         "steps 30
 epochs 2
 sinks 9
@@ -22,7 +18,7 @@ events 98
     ),
     // With one epoch nothing is asked, and the report is the same.
     (
-        &["jet", "bench", "1", "30"],
+        "jet bench 1 30",
         "steps 30
 epochs 1
 sinks 9
@@ -33,7 +29,7 @@ events 13
 ",
     ),
     (
-        &["jet", "bench", "1", "3"],
+        "jet bench 1 3",
         "steps 3
 epochs 1
 sinks 0
@@ -44,16 +40,7 @@ events 4
 ",
     ),
     (
-        &[
-            "jet",
-            "bench",
-            "18446744073709551615",
-            "1000",
-            "--workers",
-            "1",
-            "--link",
-            "1",
-        ],
+        "jet bench 18446744073709551615 1000 --workers 1 --link 1",
         "steps 1000
 epochs 1
 sinks 324
@@ -67,32 +54,24 @@ events 328
 
 /// Words, their status and their line.
 const REFUSED: &[(Line, u8, &str)] = &[
-    (&["jet", "bench", "1", "0"], 2, "jet: usage\n"),
-    (&["jet", "bench", "1"], 2, "jet: usage\n"),
+    ("jet bench 1 0", 2, "jet: usage\n"),
+    ("jet bench 1", 2, "jet: usage\n"),
     (
-        &["jet", "bench", "1", "2000000", "--epoch", "1"],
+        "jet bench 1 2000000 --epoch 1",
         9,
         "jet: limit epochs 2000000\n",
     ),
-    (
-        &["jet", "bench", "1", "8194", "--epoch", "2"],
-        9,
-        "jet: limit epochs 4097\n",
-    ),
+    ("jet bench 1 8194 --epoch 2", 9, "jet: limit epochs 4097\n"),
 ];
 
 /// A store with no file, whose first call fails.
-fn closed_store(rt: &impl Abort, alloc: Global) -> MemoryStore {
-    store_of(rt, alloc, Vec::new(alloc), 0, 65536, 0)
+fn closed_store(rt: &impl Runtime) -> MemoryStore {
+    store_of(rt, Vec::new(rt.alloc()), 0, 65536, 0)
 }
 
 /// The command of these words ends so, and calls no store.
-fn assert_bench<R: Threads + Wait + Sync + AllocGlobal + Abort>(
-    rt: &R,
-    line: Line,
-    ending: Ending<'_>,
-) {
-    let mut store = closed_store(rt, rt.alloc());
+fn assert_bench(rt: &impl Runtime, line: Line, ending: Ending<'_>) {
+    let mut store = closed_store(rt);
     assert_ends(rt, line, &mut store, ending);
 }
 

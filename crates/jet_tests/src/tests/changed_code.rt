@@ -107,9 +107,7 @@ end 17
 /// It is recorded, and queried in one epoch.
 pub const RECORDING: Recording = Recording {
     code: CHANGED_CODE,
-    line: &[
-        "jet", "record", "prog", "log", "routine", "change", "--pages", "1",
-    ],
+    line: "jet record prog log routine change --pages 1",
     pages: 1,
     channels: &[ROUTINE, CHANGE],
     entries: RUN,
@@ -119,13 +117,12 @@ pub const RECORDING: Recording = Recording {
 };
 
 /// The second of two epochs begins with the second round, so the words are known there before they change.
-const BY_ROUNDS: Line = &["jet", "query", "prog", "log", "query", "--epoch", "66"];
+const BY_ROUNDS: Line = "jet query prog log query --epoch 66";
 
 #[test]
 fn changed_code_is_run(rt: HostRuntime) {
-    let alloc = rt.alloc();
-    let program = program(&rt, alloc, CHANGED_CODE);
-    let log = RECORDING.log(&rt, alloc, &program);
+    let program = program(&rt, CHANGED_CODE);
+    let log = RECORDING.log(&rt, &program);
     for (line, text) in [(REPLAY, NUMBERS), (BY_ROUNDS, REPORT), (BY_STEPS, REPORT)] {
         assert_command(
             &rt,

@@ -3,45 +3,20 @@
 ghost use Rattle.std.specs.Prelude.{◌<◌};
 
 use super::record::{FOUR, Recording, assert_file};
-use super::refusals::copied;
 use super::runs::{CONVERT, COPIES};
 use super::{
-    COPY, Ending, Line, NEVER, assert_ends, files, log_of, program, store_of, wide_log_of,
+    COPY, Ending, Line, NEVER, Runtime, assert_ends, copied, log_of, program, store_with,
+    wide_log_of,
 };
 use jet_commands::read_file;
 use memory_outside::MemoryStore;
-use std::alloc::Global;
-use std::process::Abort;
-use std::sync::Wait;
-use std::thread::Threads;
 
-const AGAIN: Line = &["jet", "convert", "prog", "new", "again"];
+const AGAIN: Line = "jet convert prog new again";
 
-const QUERY_NEW: Line = &["jet", "query", "prog", "new", "query"];
-
-/// A store of a program, a log and a query, of which the call of this number fails. Its calls move so many bytes.
-fn store(
-    rt: &impl Abort,
-    alloc: Global,
-    program: &[u8],
-    log: &[u8],
-    query: &str,
-    failing: u64,
-    piece: usize,
-) -> MemoryStore
-    requires { 0 < piece }
-{
-    let files = files(rt, alloc, program, log, query.as_bytes());
-    store_of(rt, alloc, files, failing, piece, 1000)
-}
+const QUERY_NEW: Line = "jet query prog new query";
 
 /// The log `new` is this one, the query tells the same of it, and it is what it is converted to.
-fn assert_new<R: Threads + Wait + Sync + AllocGlobal + Abort>(
-    rt: &R,
-    store: &mut MemoryStore,
-    log: &[u8],
-    report: &str,
-) {
+fn assert_new(rt: &impl Runtime, store: &mut MemoryStore, log: &[u8], report: &str) {
     assert_ends(rt, CONVERT, store, Ending::report(""));
     assert_file(rt, store, "new", Some(log));
     assert_ends(rt, QUERY_NEW, store, Ending::report(report));
@@ -50,39 +25,36 @@ fn assert_new<R: Threads + Wait + Sync + AllocGlobal + Abort>(
 }
 
 /// The run's log in this store is converted to what its recording writes.
-fn assert_converted<R: Threads + Wait + Sync + AllocGlobal + Abort>(
-    rt: &R,
+fn assert_converted(
+    rt: &impl Runtime,
     recording: &Recording,
     store: &mut MemoryStore,
     program: &[u8],
 ) {
-    let wide = recording.log(rt, rt.alloc(), program);
+    let wide = recording.log(rt, program);
     assert_new(rt, store, &wide, recording.report);
 }
 
 /// The run's log in version 1 is converted to what its recording writes.
-pub fn assert_conversion<R: Threads + Wait + Sync + AllocGlobal + Abort>(
-    rt: &R,
-    recording: &Recording,
-) {
-    let alloc = rt.alloc();
-    let program = program(rt, alloc, recording.code);
+pub fn assert_conversion(rt: &impl Runtime, recording: &Recording) {
+    let program = program(rt, recording.code);
     let inputs = u32::try_from(recording.channels.len()).unwrap_or(0);
-    let log = log_of(
+    let log = log_of(rt, &program, recording.pages, inputs, recording.entries);
+    let mut store = store_with(
         rt,
-        alloc,
         &program,
-        recording.pages,
-        inputs,
-        recording.entries,
+        &log,
+        recording.query.as_bytes(),
+        NEVER,
+        65536,
+        1000,
     );
-    let mut store = store(rt, alloc, &program, &log, recording.query, NEVER, 65536);
     assert_converted(rt, recording, &mut store, &program);
 }
 
 /// The other files are as before, and the new log has these bytes or isn't there.
-fn assert_files<R: Threads + Wait + Sync + AllocGlobal + Abort>(
-    rt: &R,
+fn assert_files(
+    rt: &impl Runtime,
     store: &mut MemoryStore,
     program: &[u8],
     log: &[u8],
@@ -95,8 +67,8 @@ fn assert_files<R: Threads + Wait + Sync + AllocGlobal + Abort>(
 }
 
 /// A conversion over this store, of which this call fails.
-fn assert_call_fails<R: Threads + Wait + Sync + AllocGlobal + Abort>(
-    rt: &R,
+fn assert_call_fails(
+    rt: &impl Runtime,
     store: &mut MemoryStore,
     program: &[u8],
     log: &[u8],
@@ -117,14 +89,8 @@ fn assert_call_fails<R: Threads + Wait + Sync + AllocGlobal + Abort>(
 }
 
 /// A conversion over a store of which this call fails.
-fn assert_failing_call<R: Threads + Wait + Sync + AllocGlobal + Abort>(
-    rt: &R,
-    program: &[u8],
-    log: &[u8],
-    wide: &[u8],
-    call: u64,
-) {
-    let mut store = store(rt, rt.alloc(), program, log, COPY, call, 10);
+fn assert_failing_call(rt: &impl Runtime, program: &[u8], log: &[u8], wide: &[u8], call: u64) {
+    let mut store = store_with(rt, program, log, COPY.as_bytes(), call, 10, 1000);
     assert_call_fails(rt, &mut store, program, log, wide, call);
 }
 
@@ -132,9 +98,8 @@ fn assert_failing_call<R: Threads + Wait + Sync + AllocGlobal + Abort>(
 /// Each of these calls fails once, and then no file differs.
 #[test]
 fn a_failing_store_leaves_the_files(rt: HostRuntime) {
-    let alloc = rt.alloc();
-    let (program, log) = copied(&rt, alloc);
-    let wide = wide_log_of(&rt, alloc, &program, 1, FOUR, COPIES);
+    let (program, log) = copied(&rt);
+    let wide = wide_log_of(&rt, &program, 1, FOUR, COPIES);
     for call in 0..45 {
         assert_failing_call(&rt, &program, &log, &wide, call);
     }

@@ -1,6 +1,6 @@
 //! Runs that are cut into epochs: how many there may be.
 
-use super::{BY_STEPS, COPY, Ending, Line, assert_command, log, program, push, push_words};
+use super::{BY_STEPS, COPY, Ending, Entry, Line, assert_command, log_of, program};
 use guest_assembler::{Instr, code};
 
 /// Counts down from 2047 and exits: 4,097 steps.
@@ -12,87 +12,44 @@ const COUNT_DOWN: [Instr; 5] = code![
     ecall(),
 ];
 
-/// The command lines over its run, and how they end: 4,097 epochs are too many, and 2,049 are not.
-const LIMITS: &[(Line, Ending<'static>)] = &[
+/// The command lines over its run, their statuses, and what they write: 4,097 epochs are too many, and 2,049 are not.
+const LIMITS: &[(Line, u8, &str)] = &[
+    (BY_STEPS, 9, "jet: limit epochs 4097\n"),
+    ("jet query prog log query --epoch 2", 0, "end 0\n"),
     (
-        BY_STEPS,
-        Ending {
-            status: 9,
-            out: &[],
-            err: "jet: limit epochs 4097\n",
-        },
+        "jet influence prog log query --epoch 1",
+        9,
+        "jet: limit epochs 4097\n",
     ),
     (
-        &["jet", "query", "prog", "log", "query", "--epoch", "2"],
-        Ending {
-            status: 0,
-            out: b"end 0\n",
-            err: "",
-        },
+        "jet path prog log query --epoch 1",
+        9,
+        "jet: limit epochs 4097\n",
     ),
     (
-        &["jet", "influence", "prog", "log", "query", "--epoch", "1"],
-        Ending {
-            status: 9,
-            out: &[],
-            err: "jet: limit epochs 4097\n",
-        },
+        "jet page prog log query page --epoch 1",
+        9,
+        "jet: limit epochs 4097\n",
     ),
     (
-        &["jet", "path", "prog", "log", "query", "--epoch", "1"],
-        Ending {
-            status: 9,
-            out: &[],
-            err: "jet: limit epochs 4097\n",
-        },
+        "jet show prog log query --epoch 1",
+        9,
+        "jet: limit epochs 4097\n",
     ),
     (
-        &[
-            "jet", "page", "prog", "log", "query", "page", "--epoch", "1",
-        ],
-        Ending {
-            status: 9,
-            out: &[],
-            err: "jet: limit epochs 4097\n",
-        },
+        "jet queries prog log query query --epoch 1",
+        9,
+        "jet: limit epochs 4097\n",
     ),
-    (
-        &["jet", "show", "prog", "log", "query", "--epoch", "1"],
-        Ending {
-            status: 9,
-            out: &[],
-            err: "jet: limit epochs 4097\n",
-        },
-    ),
-    (
-        &[
-            "jet", "queries", "prog", "log", "query", "query", "--epoch", "1",
-        ],
-        Ending {
-            status: 9,
-            out: &[],
-            err: "jet: limit epochs 4097\n",
-        },
-    ),
-    (
-        &["jet", "query", "prog", "log", "query", "--workers", "0"],
-        Ending {
-            status: 2,
-            out: &[],
-            err: "jet: usage\n",
-        },
-    ),
+    ("jet query prog log query --workers 0", 2, "jet: usage\n"),
 ];
 
 #[test]
 fn too_many_epochs_are_refused(rt: HostRuntime) {
-    let alloc = rt.alloc();
-    let file = program(&rt, alloc, &COUNT_DOWN);
-    let mut records = Vec::new(alloc);
-    push(&rt, &mut records, &[5]);
-    push_words(&rt, &mut records, [4096, 0].as_slice());
-    let log = log(&rt, alloc, &file, 1, 0, &records);
-    for &(line, ending) in LIMITS {
+    let file = program(&rt, &COUNT_DOWN);
+    let log = log_of(&rt, &file, 1, 0, &[Entry::Exit(4096, 0)]);
+    for &(line, status, text) in LIMITS {
+        let ending = Ending::of(status, text);
         assert_command(&rt, line, &file, &log, COPY.as_bytes(), ending);
     }
 }

@@ -1,58 +1,35 @@
 //! Gates that are handed to the whole program, and entered by the epochs of its command.
 
-use super::guests::COPY_FOUR;
 use super::{
-    COPIED, COPY, Line, NEVER, QUERY, files, log, log_with, program, program_of, push, push_words,
-    sink, status_by, store_of,
+    COPIED, COPY, Entry, Line, NEVER, QUERY, Runtime, copied, log_of, program, sink, status_by,
+    store_with,
 };
 use guest_assembler::{Instr, code};
 use memory_outside::{CountingGate, MeetingGate, MemoryStore};
 use outer_io::Gate;
-use std::alloc::Global;
-use std::process::Abort;
-use std::sync::Wait;
-use std::thread::Threads;
 
 /// The query over the four-byte copy in two epochs, which two workers turn.
-const BY_TWO: Line = &[
-    "jet",
-    "query",
-    "prog",
-    "log",
-    "query",
-    "--epoch",
-    "6",
-    "--workers",
-    "2",
-];
-
-/// A store of the files of the four-byte copy.
-fn copied(rt: &impl Abort, alloc: Global) -> MemoryStore {
-    let program = program_of(rt, alloc, &COPY_FOUR);
-    let log = log_with(rt, alloc, &COPY_FOUR, &program, b"ABCD");
-    let files = files(rt, alloc, &program, &log, COPY.as_bytes());
-    store_of(rt, alloc, files, NEVER, 65536, 0)
-}
+const BY_TWO: Line = "jet query prog log query --epoch 6 --workers 2";
 
 /// The query over these files is answered with this report, where this gate is told of its epochs.
-fn assert_report<R: Threads + Wait + Sync + AllocGlobal + Abort, G: Gate>(
-    rt: &R,
+fn assert_report<G: Gate>(
+    rt: &impl Runtime,
     line: Line,
     mut store: MemoryStore,
     report: &str,
     gate: &G,
 ) {
-    let alloc = rt.alloc();
-    let mut out = sink(rt, alloc, NEVER, 65536);
-    let mut err = sink(rt, alloc, NEVER, 1);
+    let mut out = sink(rt, NEVER, 65536);
+    let mut err = sink(rt, NEVER, 1);
     let status = status_by(rt, line, &mut store, &mut out, &mut err, gate);
     assert_eq!(rt; status, 0);
     assert_eq!(rt; out.bytes(), report.as_bytes());
 }
 
 /// The query over the four-byte copy is answered, where this gate is told of its epochs.
-fn assert_copied<R: Threads + Wait + Sync + AllocGlobal + Abort, G: Gate>(rt: &R, gate: &G) {
-    let store = copied(rt, rt.alloc());
+fn assert_copied<G: Gate>(rt: &impl Runtime, gate: &G) {
+    let (program, log) = copied(rt);
+    let store = store_with(rt, &program, &log, COPY.as_bytes(), NEVER, 65536, 0);
     assert_report(rt, BY_TWO, store, COPIED, gate);
 }
 
@@ -82,14 +59,10 @@ const COUNT_DOWN: [Instr; 5] = code![
 ];
 
 /// A store of the files of that run, and this query.
-fn counted(rt: &impl Abort, alloc: Global, query: &str) -> MemoryStore {
-    let program = program(rt, alloc, &COUNT_DOWN);
-    let mut records = Vec::new(alloc);
-    push(rt, &mut records, &[5]);
-    push_words(rt, &mut records, [262146, 0].as_slice());
-    let log = log(rt, alloc, &program, 1, 0, &records);
-    let files = files(rt, alloc, &program, &log, query.as_bytes());
-    store_of(rt, alloc, files, NEVER, 65536, 0)
+fn counted(rt: &impl Runtime, query: &str) -> MemoryStore {
+    let program = program(rt, &COUNT_DOWN);
+    let log = log_of(rt, &program, 1, 0, &[Entry::Exit(262146, 0)]);
+    store_with(rt, &program, &log, query.as_bytes(), NEVER, 65536, 0)
 }
 
 /// A point at that run's end, and the report.
@@ -110,19 +83,9 @@ const EARLY: (&str, &str) = (
     "m:0@9\nend 1\n",
 );
 
-const BY_ONE: Line = &["jet", "query", "prog", "log", "query", "--workers", "1"];
+const BY_ONE: Line = "jet query prog log query --workers 1";
 
-const BY_EIGHTHS: Line = &[
-    "jet",
-    "query",
-    "prog",
-    "log",
-    "query",
-    "--epoch",
-    "32769",
-    "--workers",
-    "2",
-];
+const BY_EIGHTHS: Line = "jet query prog log query --epoch 32769 --workers 2";
 
 /// Queries over that run with their reports, and how many epochs enter the gate. Unless their length is told there is one
 /// for each worker, of 262,144 steps at least. Where fewer than half of the steps are needed, these alone are cut.
@@ -138,10 +101,9 @@ const SHARES: &[(Line, (&str, &str), u32)] = &[
 
 #[test]
 fn what_is_analysed_has_an_epoch_for_each_worker(rt: HostRuntime) {
-    let alloc = rt.alloc();
     for &(line, (query, report), epochs) in SHARES {
-        let gate = CountingGate::new(alloc, epochs).expect(&rt, "memory");
-        let store = counted(&rt, alloc, query);
+        let gate = CountingGate::new(rt.alloc(), epochs).expect(&rt, "memory");
+        let store = counted(&rt, query);
         assert_report(&rt, line, store, report, &gate);
         assert!(rt; gate.is_entered_by_each_once());
     }

@@ -13,11 +13,11 @@ const CORE_MARK: &[u8] =
 /// Also where the words are none.
 #[test]
 fn a_file_takes_the_place_of_one_of_its_kind(rt: HostRuntime) {
-    let line: Line = &["jet", "pages"];
+    let line: Line = "jet pages";
     let page: &[u8] = b"<!--jet page-->";
     let log: &[u8] = b"JETLOG";
     for (line, wanted) in [(PAGE, page), (CORE, CORE_MARK), (CONVERT, log), (line, log)] {
-        let words = words(&rt, rt.alloc(), line);
+        let words = words(&rt, line);
         let mark = mark_for(rt.alloc(), &words).expect(&rt, "memory");
         assert!(rt; mark == wanted);
     }

@@ -53,17 +53,7 @@ const POINTS: &str = "rule copy\nsource all\nsink mem 65793 1 at 6\nsink mem 657
 /// A point at the run's end, and one after it.
 const AT_THE_END: &str = "rule copy\nsource all\nsink mem 65792 1 at 25\nsink mem 65792 1 at 26\n";
 
-const INFLUENCE_BY_STEPS: Line = &[
-    "jet",
-    "influence",
-    "prog",
-    "log",
-    "query",
-    "--epoch",
-    "1",
-    "--workers",
-    "2",
-];
+const INFLUENCE_BY_STEPS: Line = "jet influence prog log query --epoch 1 --workers 2";
 
 /// Words, queries, and what is told.
 const TOLD: &[(Line, &str, &str)] = &[
@@ -90,9 +80,8 @@ const TOLD: &[(Line, &str, &str)] = &[
 
 #[test]
 fn what_comes_after_the_last_chosen_byte_changes_nothing(rt: HostRuntime) {
-    let alloc = rt.alloc();
-    let program = program(&rt, alloc, &TWICE);
-    let log = log_of(&rt, alloc, &program, 1, 1, &CALLED_TWICE);
+    let program = program(&rt, &TWICE);
+    let log = log_of(&rt, &program, 1, 1, &CALLED_TWICE);
     for &(line, query, told) in TOLD {
         let ending = Ending::report(told);
         assert_command(&rt, line, &program, &log, query.as_bytes(), ending);
@@ -102,11 +91,10 @@ fn what_comes_after_the_last_chosen_byte_changes_nothing(rt: HostRuntime) {
 /// A call after the last chosen byte that the log keeps wrongly is told as ever.
 #[test]
 fn a_later_call_is_checked(rt: HostRuntime) {
-    let alloc = rt.alloc();
-    let program = program(&rt, alloc, &TWICE);
+    let program = program(&rt, &TWICE);
     let mut entries = CALLED_TWICE;
     entries[3] = Entry::Write(21, 1, 2, b"CE");
-    let log = log_of(&rt, alloc, &program, 1, 1, &entries);
+    let log = log_of(&rt, &program, 1, 1, &entries);
     let ending = Ending::refusal(5, "jet: diverged at 21 byte 1 kept 69 seen 68\n");
     assert_command(&rt, QUERY, &program, &log, EARLY.as_bytes(), ending);
 }

@@ -2,20 +2,16 @@
 
 ghost use Rattle.std.specs.Prelude.{◌<◌};
 
-use super::guests::COPY_FOUR;
+use super::guests::COPY_CODE;
 use super::runs::{
     CALLS, CALLS_OF_COPY, CONVERT, CORE, DECISIONS, INFLUENCE, INPUT, NUMBERS, OUTPUT, PAGE, PATH,
     QUERIES, REPLAY, SHOW, STACK,
 };
 use super::{
-    COPIED, COPY, Ending, Line, NEVER, QUERY, assert_ends, assert_puts, files, log_with,
-    program_of, status_of, store_of,
+    COPIED, COPY, Ending, Entry, Line, NEVER, QUERY, Runtime, assert_ends, assert_puts, files,
+    log_of, program, status_of, store_of,
 };
 use memory_outside::{MemoryFile, MemoryStore, SureSink, SureStore};
-use std::alloc::Global;
-use std::process::Abort;
-use std::sync::Wait;
-use std::thread::Threads;
 
 /// The words of commands over the four-byte copy, how often they call the store, and what they write.
 const COMMANDS: &[(Line, u64, &str)] = &[
@@ -41,26 +37,25 @@ const COMMANDS: &[(Line, u64, &str)] = &[
 ];
 
 /// The three files of the four-byte copy; the log has these bytes as written.
-fn copied(rt: &impl Abort, alloc: Global, written: &[u8]) -> Vec<MemoryFile> {
-    let program = program_of(rt, alloc, &COPY_FOUR);
-    let log = log_with(rt, alloc, &COPY_FOUR, &program, written);
-    files(rt, alloc, &program, &log, COPY.as_bytes())
+fn copied(rt: &impl Runtime, written: &'static [u8]) -> Vec<MemoryFile> {
+    let program = program(rt, COPY_CODE);
+    let entries = [
+        Entry::Read(5, 0, 4, b"ABCD"),
+        Entry::Write(8, 1, 4, written),
+        Entry::Exit(11, 0),
+    ];
+    let log = log_of(rt, &program, 1, 1, &entries);
+    files(rt, &program, &log, COPY.as_bytes())
 }
 
 /// A store of the files, of which the call of this number fails.
-fn store(rt: &impl Abort, alloc: Global, written: &[u8], failing: u64) -> MemoryStore {
-    store_of(rt, alloc, copied(rt, alloc, written), failing, 65536, 0)
+fn store(rt: &impl Runtime, written: &'static [u8], failing: u64) -> MemoryStore {
+    store_of(rt, copied(rt, written), failing, 65536, 0)
 }
 
 /// A command that calls the store so often ends so where this call fails.
-fn assert_read_fails<R: Threads + Wait + Sync + AllocGlobal + Abort>(
-    rt: &R,
-    line: Line,
-    calls: u64,
-    text: &str,
-    call: u64,
-) {
-    let mut store = store(rt, rt.alloc(), b"ABCD", call);
+fn assert_read_fails(rt: &impl Runtime, line: Line, calls: u64, text: &str, call: u64) {
+    let mut store = store(rt, b"ABCD", call);
     let ending = if call < calls {
         Ending::refusal(7, "jet: read fault\n")
     } else {
@@ -98,16 +93,10 @@ fn ending_at(text: &str, put: u64, piece: usize) -> Ending<'_> {
 }
 
 /// A command whose output takes at most so many bytes at a time, and fails at this put, ends so.
-fn assert_put_fails<R: Threads + Wait + Sync + AllocGlobal + Abort>(
-    rt: &R,
-    line: Line,
-    text: &str,
-    put: u64,
-    piece: usize,
-)
+fn assert_put_fails(rt: &impl Runtime, line: Line, text: &str, put: u64, piece: usize)
     requires { 0 < piece }
 {
-    let mut store = store(rt, rt.alloc(), b"ABCD", NEVER);
+    let mut store = store(rt, b"ABCD", NEVER);
     let ending = ending_at(text, put, piece);
     assert_puts(rt, line, &mut store, put, piece, NEVER, ending);
 }
@@ -123,8 +112,8 @@ fn each_failing_put_is_a_write_fault(rt: HostRuntime) {
 }
 
 /// A diverging log is refused where standard error fails at this put, and so much of the line is said.
-fn assert_said<R: Threads + Wait + Sync + AllocGlobal + Abort>(rt: &R, put: u64, said: &str) {
-    let mut store = store(rt, rt.alloc(), b"ABXD", NEVER);
+fn assert_said(rt: &impl Runtime, put: u64, said: &str) {
+    let mut store = store(rt, b"ABXD", NEVER);
     assert_puts(
         rt,
         QUERY,
@@ -144,12 +133,7 @@ fn a_failing_standard_error_changes_no_status(rt: HostRuntime) {
 }
 
 /// A query over a sure outside gives the same.
-fn assert_sure<R: Threads + Wait + Sync + AllocGlobal + Abort>(
-    rt: &R,
-    store: &mut SureStore,
-    out: &mut SureSink,
-    err: &mut SureSink,
-) {
+fn assert_sure(rt: &impl Runtime, store: &mut SureStore, out: &mut SureSink, err: &mut SureSink) {
     let status = status_of(rt, QUERY, store, out, err);
     assert_eq!(rt; status, 0);
     assert_eq!(rt; out.bytes(), COPIED.as_bytes());
@@ -159,7 +143,7 @@ fn assert_sure<R: Threads + Wait + Sync + AllocGlobal + Abort>(
 #[test]
 fn a_sure_outside_gives_the_same(rt: HostRuntime) {
     let alloc = rt.alloc();
-    let files = copied(&rt, alloc, b"ABCD");
+    let files = copied(&rt, b"ABCD");
     let mut store = SureStore::new(alloc, files, 0).expect(&rt, "memory");
     let mut out = SureSink::new(alloc, 100).expect(&rt, "memory");
     let mut err = SureSink::new(alloc, 100).expect(&rt, "memory");
@@ -168,55 +152,38 @@ fn a_sure_outside_gives_the_same(rt: HostRuntime) {
 
 /// Words that are no command, and commands whose files are missing.
 const WORDS: &[(Line, u8, &str)] = &[
-    (&[], 2, "jet: usage\n"),
-    (&["jet"], 2, "jet: usage\n"),
-    (&["jet", "query", "prog", "log"], 2, "jet: usage\n"),
+    ("", 2, "jet: usage\n"),
+    ("jet", 2, "jet: usage\n"),
+    ("jet query prog log", 2, "jet: usage\n"),
     (QUERY, 7, "jet: read fault\n"),
-    (&["jet", "record", "prog", "log"], 7, "jet: read fault\n"),
+    ("jet record prog log", 7, "jet: read fault\n"),
     (REPLAY, 7, "jet: read fault\n"),
     (OUTPUT, 7, "jet: read fault\n"),
     (INPUT, 7, "jet: read fault\n"),
     (STACK, 7, "jet: read fault\n"),
     (CALLS, 7, "jet: read fault\n"),
-    (&["jet", "stack", "prog", "log"], 2, "jet: usage\n"),
-    (&["jet", "stack", "prog", "log", "x"], 2, "jet: usage\n"),
-    (
-        &["jet", "stack", "prog", "log", "7", "1099511627777"],
-        2,
-        "jet: usage\n",
-    ),
-    (&["jet", "convert", "prog", "log"], 2, "jet: usage\n"),
-    (&["jet", "influence", "prog", "log"], 2, "jet: usage\n"),
-    (
-        &["jet", "influence", "prog", "log", "query", "query"],
-        2,
-        "jet: usage\n",
-    ),
+    ("jet stack prog log", 2, "jet: usage\n"),
+    ("jet stack prog log x", 2, "jet: usage\n"),
+    ("jet stack prog log 7 1099511627777", 2, "jet: usage\n"),
+    ("jet convert prog log", 2, "jet: usage\n"),
+    ("jet influence prog log", 2, "jet: usage\n"),
+    ("jet influence prog log query query", 2, "jet: usage\n"),
     (CONVERT, 7, "jet: read fault\n"),
     (INFLUENCE, 7, "jet: read fault\n"),
     (QUERIES, 7, "jet: read fault\n"),
     (PATH, 7, "jet: read fault\n"),
     (DECISIONS, 7, "jet: read fault\n"),
     (SHOW, 7, "jet: read fault\n"),
-    (&["jet", "page", "prog", "log", "query"], 2, "jet: usage\n"),
+    ("jet page prog log query", 2, "jet: usage\n"),
     (PAGE, 7, "jet: read fault\n"),
-    (&["jet", "core", "prog", "log", "12"], 2, "jet: usage\n"),
-    (
-        &["jet", "core", "prog", "log", "x", "core"],
-        2,
-        "jet: usage\n",
-    ),
+    ("jet core prog log 12", 2, "jet: usage\n"),
+    ("jet core prog log x core", 2, "jet: usage\n"),
     (CORE, 7, "jet: read fault\n"),
 ];
 
 /// Over a store of no files the command of these words ends so.
-fn assert_without_files<R: Threads + Wait + Sync + AllocGlobal + Abort>(
-    rt: &R,
-    line: Line,
-    ending: Ending<'_>,
-) {
-    let alloc = rt.alloc();
-    let mut store = store_of(rt, alloc, Vec::new(alloc), NEVER, 8, 0);
+fn assert_without_files(rt: &impl Runtime, line: Line, ending: Ending<'_>) {
+    let mut store = store_of(rt, Vec::new(rt.alloc()), NEVER, 8, 0);
     assert_ends(rt, line, &mut store, ending);
 }
 

@@ -1,33 +1,16 @@
 //! Pages of queries.
 
-use super::guests::COPY_FOUR;
+use super::guests::COPY_CODE;
 use super::record::assert_file;
-use super::runs::PAGE;
-use super::{COPY, Ending, Line, NEVER, assert_ends, files, log_with, program_of, push, store_of};
+use super::runs::{COPIES, PAGE};
+use super::{COPY, Ending, Line, NEVER, Runtime, assert_ends, log_of, program, push, store_with};
 use jet_commands::read_file;
 use memory_outside::MemoryStore;
 use page_text::{push_head, push_tail};
 use sha2::{Digest, Sha256};
-use std::alloc::Global;
-use std::process::Abort;
-use std::sync::Wait;
-use std::thread::Threads;
 
 /// The words with one step in each epoch, many workers and the smallest links.
-const BY_STEPS: Line = &[
-    "jet",
-    "page",
-    "prog",
-    "log",
-    "query",
-    "page",
-    "--epoch",
-    "1",
-    "--workers",
-    "8",
-    "--link",
-    "1",
-];
+const BY_STEPS: Line = "jet page prog log query page --epoch 1 --workers 8 --link 1";
 
 /// What the data of the four-byte copy's page has before the program's digest: the first row, and three that go on.
 const ROWS: &str = "jet page 1\nrows\n1:0 0:0-1\n+++program ";
@@ -42,11 +25,11 @@ const TOLD: &str =
     r 0 4 5\nw 1 4 8\nend 4\n";
 
 /// The page of the copy by this program.
-fn page_of(rt: &impl Abort, alloc: Global, program: &[u8]) -> Vec<u8> {
+fn page_of(rt: &impl Runtime, program: &[u8]) -> Vec<u8> {
     let mut digits = [0; 64];
     let digest = Sha256::digest(program);
     let _ = hex::encode_to_slice(digest.as_slice(), &mut digits);
-    let mut page = Vec::new(alloc);
+    let mut page = Vec::new(rt.alloc());
     push_head(&mut page).expect(rt, "memory");
     push(rt, &mut page, ROWS.as_bytes());
     push(rt, &mut page, &digits);
@@ -56,23 +39,22 @@ fn page_of(rt: &impl Abort, alloc: Global, program: &[u8]) -> Vec<u8> {
 }
 
 /// A store of the copy's files, of which the call of this number fails.
-fn store(rt: &impl Abort, alloc: Global, program: &[u8], failing: u64) -> MemoryStore {
-    let log = log_with(rt, alloc, &COPY_FOUR, program, b"ABCD");
-    let files = files(rt, alloc, program, &log, COPY.as_bytes());
-    store_of(rt, alloc, files, failing, 65536, 70000)
+fn store(rt: &impl Runtime, program: &[u8], failing: u64) -> MemoryStore {
+    let log = log_of(rt, program, 1, 1, COPIES);
+    store_with(rt, program, &log, COPY.as_bytes(), failing, 65536, 70000)
 }
 
 /// The command of these words ends so over the copy's files, of which this call fails. Then there is this page, or
 /// none.
-fn assert_page<R: Threads + Wait + Sync + AllocGlobal + Abort>(
-    rt: &R,
+fn assert_page(
+    rt: &impl Runtime,
     line: Line,
     program: &[u8],
     call: u64,
     ending: Ending<'_>,
     page: Option<&[u8]>,
 ) {
-    let mut store = store(rt, rt.alloc(), program, call);
+    let mut store = store(rt, program, call);
     assert_ends(rt, line, &mut store, ending);
     // A call that never came fails now.
     let _ = read_file(rt.alloc(), &mut store, "query");
@@ -83,9 +65,8 @@ fn assert_page<R: Threads + Wait + Sync + AllocGlobal + Abort>(
 
 #[test]
 fn a_page_is_its_data_between_two_texts(rt: HostRuntime) {
-    let alloc = rt.alloc();
-    let program = program_of(&rt, alloc, &COPY_FOUR);
-    let page = page_of(&rt, alloc, &program);
+    let program = program(&rt, COPY_CODE);
+    let page = page_of(&rt, &program);
     let made = Ending::report("");
     for line in [PAGE, BY_STEPS] {
         assert_page(&rt, line, &program, NEVER, made, Some(page.as_slice()));
@@ -95,7 +76,7 @@ fn a_page_is_its_data_between_two_texts(rt: HostRuntime) {
 /// Three files are read in three calls each; the page is created, put and finished. Each of these calls fails once.
 #[test]
 fn a_failing_store_leaves_no_page(rt: HostRuntime) {
-    let program = program_of(&rt, rt.alloc(), &COPY_FOUR);
+    let program = program(&rt, COPY_CODE);
     let unread = Ending::refusal(7, "jet: read fault\n");
     for call in 0..9 {
         assert_page(&rt, PAGE, &program, call, unread, None);

@@ -5,19 +5,7 @@ use super::runs::PATH;
 use super::{COMPUTE, COPY, Ending, INDEX, Line, assert_guest};
 
 /// The words with one step in each epoch, many workers and the smallest links.
-const BY_STEPS: Line = &[
-    "jet",
-    "path",
-    "prog",
-    "log",
-    "query",
-    "--epoch",
-    "1",
-    "--workers",
-    "8",
-    "--link",
-    "1",
-];
+const BY_STEPS: Line = "jet path prog log query --epoch 1 --workers 8 --link 1";
 
 /// The first byte of a sum.
 const OF_SUM: &str = "read 5 0x00010014 0:0 m:65792

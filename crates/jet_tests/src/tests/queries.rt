@@ -1,36 +1,27 @@
 //! Several queries in one run.
 
 use super::guests::{ADD_WORDS, COPY_FOUR, Guest};
-use super::refusals::copied;
 use super::{
-    COMPUTE, COPY, Ending, KEEP, Line, NEVER, assert_ends, log_with, program_of, push_file,
-    store_of,
+    COMPUTE, COPY, Ending, KEEP, Line, NEVER, Runtime, assert_ends, copied, log_of, program_of,
+    push_file, store_of,
 };
 use memory_outside::MemoryFile;
-use std::alloc::Global;
-use std::process::Abort;
-use std::sync::Wait;
-use std::thread::Threads;
 
 /// The names of the files of queries, in their order.
 const NAMES: [&str; 3] = ["first", "second", "third"];
 
-const ONE: Line = &["jet", "queries", "prog", "log", "first"];
+const ONE: Line = "jet queries prog log first";
 
-const TWO: Line = &["jet", "queries", "prog", "log", "first", "second"];
+const TWO: Line = "jet queries prog log first second";
 
-const THREE: Line = &["jet", "queries", "prog", "log", "first", "second", "third"];
+const THREE: Line = "jet queries prog log first second third";
 
 /// As many as there may be.
-const SIXTEEN: Line = &[
-    "jet", "queries", "prog", "log", "first", "first", "first", "first", "first", "first", "first",
-    "first", "first", "first", "first", "first", "first", "first", "first", "second",
-];
+const SIXTEEN: Line =
+    "jet queries prog log first first first first first first first first first first first first first first first second";
 
-const SEVENTEEN: Line = &[
-    "jet", "queries", "prog", "log", "first", "first", "first", "first", "first", "first", "first",
-    "first", "first", "first", "first", "first", "first", "first", "first", "first", "first",
-];
+const SEVENTEEN: Line =
+    "jet queries prog log first first first first first first first first first first first first first first first first first";
 
 const FIRST_HALF: &str = "rule compute\nsource 0 0 4\nsink all\n";
 
@@ -122,18 +113,12 @@ const REFUSED: &[(Line, &[&str], u8, &str)] = &[
     ),
     (THREE, &[COPY, COMPUTE], 7, "jet: read fault\n"),
     (SEVENTEEN, &[COPY], 2, "jet: usage\n"),
-    (&["jet", "queries", "prog", "log"], &[], 2, "jet: usage\n"),
+    ("jet queries prog log", &[], 2, "jet: usage\n"),
 ];
 
 /// A program, a log and queries.
-fn files(
-    rt: &impl Abort,
-    alloc: Global,
-    program: &[u8],
-    log: &[u8],
-    queries: &[&str],
-) -> Vec<MemoryFile> {
-    let mut files = Vec::new(alloc);
+fn files(rt: &impl Runtime, program: &[u8], log: &[u8], queries: &[&str]) -> Vec<MemoryFile> {
+    let mut files = Vec::new(rt.alloc());
     push_file(rt, &mut files, "prog", program);
     push_file(rt, &mut files, "log", log);
     for (number, query) in queries.iter().enumerate() {
@@ -145,31 +130,29 @@ fn files(
 }
 
 /// The command of these words ends so over a program, a log and queries.
-fn assert_queries<R: Threads + Wait + Sync + AllocGlobal + Abort>(
-    rt: &R,
+fn assert_queries(
+    rt: &impl Runtime,
     line: Line,
     program: &[u8],
     log: &[u8],
     queries: &[&str],
     ending: Ending<'_>,
 ) {
-    let alloc = rt.alloc();
-    let files = files(rt, alloc, program, log, queries);
-    let mut store = store_of(rt, alloc, files, NEVER, 65536, 0);
+    let files = files(rt, program, log, queries);
+    let mut store = store_of(rt, files, NEVER, 65536, 0);
     assert_ends(rt, line, &mut store, ending);
 }
 
 /// The same over a guest's run.
-fn assert_guest_queries<R: Threads + Wait + Sync + AllocGlobal + Abort>(
-    rt: &R,
+fn assert_guest_queries(
+    rt: &impl Runtime,
     guest: &Guest,
     line: Line,
     queries: &[&str],
     ending: Ending<'_>,
 ) {
-    let alloc = rt.alloc();
-    let program = program_of(rt, alloc, guest);
-    let log = log_with(rt, alloc, guest, &program, guest.write.bytes);
+    let program = program_of(rt, guest);
+    let log = log_of(rt, &program, guest.pages, 1, guest.entries);
     assert_queries(rt, line, &program, &log, queries, ending);
 }
 
@@ -189,11 +172,7 @@ fn several_queries_are_refused(rt: HostRuntime) {
 }
 
 /// Rules that differ are told even where the log is of another program, and a log that is none before them.
-fn assert_rules_first<R: Threads + Wait + Sync + AllocGlobal + Abort>(
-    rt: &R,
-    program: &[u8],
-    log: &[u8],
-) {
+fn assert_rules_first(rt: &impl Runtime, program: &[u8], log: &[u8]) {
     let rules = Ending::refusal(11, "jet: rules copy 2 compute\n");
     assert_queries(rt, TWO, program, log, &[COPY, COMPUTE], rules);
     let short = Ending::refusal(4, "jet: log 3 Short at 98\n");
@@ -203,7 +182,7 @@ fn assert_rules_first<R: Threads + Wait + Sync + AllocGlobal + Abort>(
 
 #[test]
 fn rules_are_compared_before_the_log_is_fitted(rt: HostRuntime) {
-    let (_, log) = copied(&rt, rt.alloc());
-    let program = program_of(&rt, rt.alloc(), &ADD_WORDS);
+    let (_, log) = copied(&rt);
+    let program = program_of(&rt, &ADD_WORDS);
     assert_rules_first(&rt, &program, &log);
 }

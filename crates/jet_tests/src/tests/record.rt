@@ -7,16 +7,12 @@ use super::convert::assert_conversion;
 use super::guests::COPY_CODE;
 use super::runs::{COPIES, ON_TWO, WRITE_ON_TWO};
 use super::{
-    BASE, COMPUTE, COPIED, COPY, Channels, Ending, Entry, Line, NEVER, NO_INSTRUCTION, QUERY, TIME,
-    assert_ends, patched, program, push_file, store_of, wide_log_of,
+    BASE, COMPUTE, COPIED, COPY, Channels, Ending, Entry, Line, NEVER, NO_INSTRUCTION, QUERY,
+    Runtime, TIME, assert_ends, patched, program, push_file, store_of, wide_log_of,
 };
 use guest_assembler::{Instr, code};
 use jet_commands::read_file;
 use memory_outside::{MemoryFile, MemoryStore};
-use std::alloc::Global;
-use std::process::Abort;
-use std::sync::Wait;
-use std::thread::Threads;
 
 /// Asks for the time, and writes it.
 const TELL_THE_TIME: &[Instr] = &code![
@@ -72,10 +68,10 @@ const WRITE_MUCH: &[Instr] = &code![
     ecall(),
 ];
 
-const RECORD: Line = &["jet", "record", "prog", "log", "in", "--pages", "1"];
+const RECORD: Line = "jet record prog log in --pages 1";
 
 /// In the greatest window.
-const WIDEST: Line = &["jet", "record", "prog", "log", "--pages", "4096"];
+const WIDEST: Line = "jet record prog log --pages 4096";
 
 /// A guest, the words that record it, and its log: the pages, what was read of each input, the records, and the length of
 /// all. Then a query of the log, and its report.
@@ -93,8 +89,8 @@ pub struct Recording {
 
 impl Recording {
     /// The log of the run.
-    pub fn log(&self, rt: &impl Abort, alloc: Global, program: &[u8]) -> Vec<u8> {
-        wide_log_of(rt, alloc, program, self.pages, self.channels, self.entries)
+    pub fn log(&self, rt: &impl Runtime, program: &[u8]) -> Vec<u8> {
+        wide_log_of(rt, program, self.pages, self.channels, self.entries)
     }
 }
 
@@ -114,7 +110,7 @@ const RECORDINGS: &[Recording] = &[
     },
     Recording {
         code: COPY_CODE,
-        line: &["jet", "record", "prog", "log", "in"],
+        line: "jet record prog log in",
         pages: 256,
         channels: FOUR,
         entries: COPIES,
@@ -125,34 +121,7 @@ const RECORDINGS: &[Recording] = &[
     // The greatest numbers, and as many inputs as there may be.
     Recording {
         code: COPY_CODE,
-        line: &[
-            "jet",
-            "record",
-            "prog",
-            "log",
-            "in",
-            "in",
-            "in",
-            "in",
-            "in",
-            "in",
-            "in",
-            "in",
-            "in",
-            "in",
-            "in",
-            "in",
-            "in",
-            "in",
-            "in",
-            "in",
-            "--pages",
-            "4096",
-            "--piece",
-            "16777216",
-            "--steps",
-            "1099511627776",
-        ],
+        line: "jet record prog log in in in in in in in in in in in in in in in in --pages 4096 --piece 16777216 --steps 1099511627776",
         pages: 4096,
         channels: &[
             b"ABCD", b"", b"", b"", b"", b"", b"", b"", b"", b"", b"", b"", b"", b"", b"", b"",
@@ -165,9 +134,7 @@ const RECORDINGS: &[Recording] = &[
     // A read gets two bytes at most.
     Recording {
         code: COPY_CODE,
-        line: &[
-            "jet", "record", "prog", "log", "in", "--pages", "1", "--piece", "2",
-        ],
+        line: "jet record prog log in --pages 1 --piece 2",
         pages: 1,
         channels: &[b"AB"],
         entries: &[
@@ -182,7 +149,7 @@ const RECORDINGS: &[Recording] = &[
     // There is no channel 0.
     Recording {
         code: COPY_CODE,
-        line: &["jet", "record", "prog", "log", "--pages", "1"],
+        line: "jet record prog log --pages 1",
         pages: 1,
         channels: &[],
         entries: &[
@@ -197,9 +164,7 @@ const RECORDINGS: &[Recording] = &[
     // Cut off before the read, after it, and not at all.
     Recording {
         code: COPY_CODE,
-        line: &[
-            "jet", "record", "prog", "log", "four", "--pages", "1", "--steps", "5",
-        ],
+        line: "jet record prog log four --pages 1 --steps 5",
         pages: 1,
         channels: &[b""],
         entries: &[Entry::Limit(5)],
@@ -209,9 +174,7 @@ const RECORDINGS: &[Recording] = &[
     },
     Recording {
         code: COPY_CODE,
-        line: &[
-            "jet", "record", "prog", "log", "four", "--pages", "1", "--steps", "6",
-        ],
+        line: "jet record prog log four --pages 1 --steps 6",
         pages: 1,
         channels: FOUR,
         entries: &[Entry::Read(5, 0, 4, b"ABCD"), Entry::Limit(6)],
@@ -221,9 +184,7 @@ const RECORDINGS: &[Recording] = &[
     },
     Recording {
         code: COPY_CODE,
-        line: &[
-            "jet", "record", "prog", "log", "four", "--pages", "1", "--steps", "12",
-        ],
+        line: "jet record prog log four --pages 1 --steps 12",
         pages: 1,
         channels: FOUR,
         entries: COPIES,
@@ -233,7 +194,7 @@ const RECORDINGS: &[Recording] = &[
     },
     Recording {
         code: TELL_THE_TIME,
-        line: &["jet", "record", "prog", "log", "--pages", "1"],
+        line: "jet record prog log --pages 1",
         pages: 1,
         channels: &[],
         entries: &[
@@ -247,9 +208,7 @@ const RECORDINGS: &[Recording] = &[
     },
     Recording {
         code: COPY_THE_SECOND,
-        line: &[
-            "jet", "record", "prog", "log", "in", "other", "--pages", "1",
-        ],
+        line: "jet record prog log in other --pages 1",
         pages: 1,
         channels: &[b"", b"WXYZ"],
         entries: &[
@@ -264,7 +223,7 @@ const RECORDINGS: &[Recording] = &[
     // Each kind of record.
     Recording {
         code: WRITE_ON_TWO,
-        line: &["jet", "record", "prog", "log", "four", "--pages", "1"],
+        line: "jet record prog log four --pages 1",
         pages: 1,
         channels: FOUR,
         entries: ON_TWO,
@@ -275,9 +234,7 @@ const RECORDINGS: &[Recording] = &[
     // A word that no instruction has.
     Recording {
         code: &[NO_INSTRUCTION],
-        line: &[
-            "jet", "record", "prog", "log", "four", "--pages", "1", "--steps", "1",
-        ],
+        line: "jet record prog log four --pages 1 --steps 1",
         pages: 1,
         channels: &[b""],
         entries: &[Entry::Trap(0, 2, BASE)],
@@ -298,16 +255,16 @@ const INPUTS: &[(&str, &[u8])] = &[
 ];
 
 /// Adds a program, the same for a wider window, and what begins it.
-fn push_programs(rt: &impl Abort, files: &mut Vec<MemoryFile>, program: &[u8]) {
-    let wide = patched(rt, *files.allocator(), program, (72, b"\0\x20\0\0"));
+fn push_programs(rt: &impl Runtime, files: &mut Vec<MemoryFile>, program: &[u8]) {
+    let wide = patched(rt, program, (72, b"\0\x20\0\0"));
     push_file(rt, files, "wide", &wide);
     push_file(rt, files, "prog", program);
     push_file(rt, files, "short", &program[..program.len().min(51)]);
 }
 
 /// The programs, the inputs, and a query.
-fn files(rt: &impl Abort, alloc: Global, program: &[u8], query: &str) -> Vec<MemoryFile> {
-    let mut files = Vec::new(alloc);
+fn files(rt: &impl Runtime, program: &[u8], query: &str) -> Vec<MemoryFile> {
+    let mut files = Vec::new(rt.alloc());
     push_programs(rt, &mut files, program);
     for &(name, bytes) in INPUTS {
         push_file(rt, &mut files, name, bytes);
@@ -318,23 +275,16 @@ fn files(rt: &impl Abort, alloc: Global, program: &[u8], query: &str) -> Vec<Mem
 
 /// A store of a program, of inputs and of a query, of which the call of this number fails. Its calls move so many
 /// bytes.
-fn store(
-    rt: &impl Abort,
-    alloc: Global,
-    program: &[u8],
-    query: &str,
-    failing: u64,
-    piece: usize,
-) -> MemoryStore
+fn store(rt: &impl Runtime, program: &[u8], query: &str, failing: u64, piece: usize) -> MemoryStore
     requires { 0 < piece }
 {
-    let files = files(rt, alloc, program, query);
-    store_of(rt, alloc, files, failing, piece, 1000)
+    let files = files(rt, program, query);
+    store_of(rt, files, failing, piece, 1000)
 }
 
 /// The store's file of this name has these bytes, or there is no such file.
-pub fn assert_file<R: Threads + Wait + Sync + AllocGlobal + Abort>(
-    rt: &R,
+pub fn assert_file(
+    rt: &impl Runtime,
     store: &mut MemoryStore,
     name: &str,
     expected: Option<&[u8]>,
@@ -347,23 +297,17 @@ pub fn assert_file<R: Threads + Wait + Sync + AllocGlobal + Abort>(
 }
 
 /// The run over this store is recorded in this log, of which the query tells this.
-fn assert_recorded<R: Threads + Wait + Sync + AllocGlobal + Abort>(
-    rt: &R,
-    recording: &Recording,
-    store: &mut MemoryStore,
-    log: &[u8],
-) {
+fn assert_recorded(rt: &impl Runtime, recording: &Recording, store: &mut MemoryStore, log: &[u8]) {
     assert_ends(rt, recording.line, store, Ending::report(""));
     assert_file(rt, store, "log", Some(log));
     assert_ends(rt, QUERY, store, Ending::report(recording.report));
 }
 
-fn assert_recording<R: Threads + Wait + Sync + AllocGlobal + Abort>(rt: &R, recording: &Recording) {
-    let alloc = rt.alloc();
-    let program = program(rt, alloc, recording.code);
-    let log = recording.log(rt, alloc, &program);
+fn assert_recording(rt: &impl Runtime, recording: &Recording) {
+    let program = program(rt, recording.code);
+    let log = recording.log(rt, &program);
     assert_eq!(rt; log.len(), recording.length);
-    let mut store = store(rt, alloc, &program, recording.query, NEVER, 65536);
+    let mut store = store(rt, &program, recording.query, NEVER, 65536);
     assert_recorded(rt, recording, &mut store, &log);
 }
 
@@ -377,71 +321,30 @@ fn runs_are_recorded_and_converted(rt: HostRuntime) {
 
 /// Words, their status and their line. No file is written.
 const REFUSED: &[(Line, u8, &str)] = &[
+    ("jet record none log in", 7, "jet: read fault\n"),
+    ("jet record prog log none", 7, "jet: read fault\n"),
+    ("jet record prog log in none", 7, "jet: read fault\n"),
+    ("jet record short log none", 3, "jet: image 1 Short\n"),
+    ("jet record wide log none --pages 1", 7, "jet: read fault\n"),
+    ("jet record wide log in --pages 1", 3, "jet: window 1\n"),
+    ("jet record prog log in --pages 0", 2, "jet: usage\n"),
     (
-        &["jet", "record", "none", "log", "in"],
-        7,
-        "jet: read fault\n",
-    ),
-    (
-        &["jet", "record", "prog", "log", "none"],
-        7,
-        "jet: read fault\n",
-    ),
-    (
-        &["jet", "record", "prog", "log", "in", "none"],
-        7,
-        "jet: read fault\n",
-    ),
-    (
-        &["jet", "record", "short", "log", "none"],
-        3,
-        "jet: image 1 Short\n",
-    ),
-    (
-        &["jet", "record", "wide", "log", "none", "--pages", "1"],
-        7,
-        "jet: read fault\n",
-    ),
-    (
-        &["jet", "record", "wide", "log", "in", "--pages", "1"],
-        3,
-        "jet: window 1\n",
-    ),
-    (
-        &["jet", "record", "prog", "log", "in", "--pages", "0"],
-        2,
-        "jet: usage\n",
-    ),
-    (
-        &[
-            "jet",
-            "record",
-            "prog",
-            "log",
-            "in",
-            "--steps",
-            "1099511627777",
-        ],
+        "jet record prog log in --steps 1099511627777",
         2,
         "jet: usage\n",
     ),
 ];
 
 /// The command of these words is refused so, and writes no file.
-fn assert_unwritten<R: Threads + Wait + Sync + AllocGlobal + Abort>(
-    rt: &R,
-    program: &[u8],
-    line: Line,
-    ending: Ending<'_>,
-) {
-    let mut store = store(rt, rt.alloc(), program, COPY, NEVER, 65536);
+fn assert_unwritten(rt: &impl Runtime, program: &[u8], line: Line, ending: Ending<'_>) {
+    let mut store = store(rt, program, COPY, NEVER, 65536);
     assert_ends(rt, line, &mut store, ending);
     assert_file(rt, &mut store, "log", None);
 }
 
 #[test]
 fn a_refused_recording_writes_no_file(rt: HostRuntime) {
-    let program = program(&rt, rt.alloc(), COPY_CODE);
+    let program = program(&rt, COPY_CODE);
     for &(line, status, said) in REFUSED {
         assert_unwritten(&rt, &program, line, Ending::refusal(status, said));
     }
@@ -450,26 +353,21 @@ fn a_refused_recording_writes_no_file(rt: HostRuntime) {
 /// Five writes are more than a log may have.
 #[test]
 fn a_log_that_is_too_long_is_not_written(rt: HostRuntime) {
-    let program = program(&rt, rt.alloc(), WRITE_MUCH);
+    let program = program(&rt, WRITE_MUCH);
     let ending = Ending::refusal(9, "jet: limit log 83558586\n");
     assert_unwritten(&rt, &program, WIDEST, ending);
 }
 
 /// The program and the input are there as before, and the log has these bytes or isn't there.
-fn assert_files<R: Threads + Wait + Sync + AllocGlobal + Abort>(
-    rt: &R,
-    store: &mut MemoryStore,
-    program: &[u8],
-    log: Option<&[u8]>,
-) {
+fn assert_files(rt: &impl Runtime, store: &mut MemoryStore, program: &[u8], log: Option<&[u8]>) {
     assert_file(rt, store, "log", log);
     assert_file(rt, store, "prog", Some(program));
     assert_file(rt, store, "in", Some(b"ABCDEFG"));
 }
 
 /// A recording over this store, of which this call fails.
-fn assert_call_fails<R: Threads + Wait + Sync + AllocGlobal + Abort>(
-    rt: &R,
+fn assert_call_fails(
+    rt: &impl Runtime,
     store: &mut MemoryStore,
     program: &[u8],
     log: &[u8],
@@ -489,13 +387,8 @@ fn assert_call_fails<R: Threads + Wait + Sync + AllocGlobal + Abort>(
 }
 
 /// A recording over a store of which this call fails.
-fn assert_failing_call<R: Threads + Wait + Sync + AllocGlobal + Abort>(
-    rt: &R,
-    program: &[u8],
-    log: &[u8],
-    call: u64,
-) {
-    let mut store = store(rt, rt.alloc(), program, COPY, call, 10);
+fn assert_failing_call(rt: &impl Runtime, program: &[u8], log: &[u8], call: u64) {
+    let mut store = store(rt, program, COPY, call, 10);
     assert_call_fails(rt, &mut store, program, log, call);
 }
 
@@ -503,9 +396,8 @@ fn assert_failing_call<R: Threads + Wait + Sync + AllocGlobal + Abort>(
 /// Each of these calls fails once, and then no file differs.
 #[test]
 fn a_failing_store_leaves_the_files(rt: HostRuntime) {
-    let alloc = rt.alloc();
-    let program = program(&rt, alloc, COPY_CODE);
-    let log = wide_log_of(&rt, alloc, &program, 1, FOUR, COPIES);
+    let program = program(&rt, COPY_CODE);
+    let log = wide_log_of(&rt, &program, 1, FOUR, COPIES);
     for call in 0..35 {
         assert_failing_call(&rt, &program, &log, call);
     }

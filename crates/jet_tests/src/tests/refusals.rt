@@ -1,23 +1,12 @@
 //! Files that are refused, each with its status and its line.
 
-use super::guests::COPY_FOUR;
+use super::guests::COPY_CODE;
 use super::record::FOUR;
 use super::runs::COPIES;
 use super::{
-    COPIED, COPY, Channels, Ending, Entry, Patch, assert_query, log_with, owned, patched,
-    program_of, push, push_words, wide_log_of,
+    COPIED, COPY, Channels, Ending, Entry, Patch, Runtime, assert_copy, assert_query, copied,
+    log_of, owned, patched, program, push, push_words, wide_log_of,
 };
-use std::alloc::Global;
-use std::process::Abort;
-use std::sync::Wait;
-use std::thread::Threads;
-
-/// The program and the log of the four-byte copy.
-pub fn copied(rt: &impl Abort, alloc: Global) -> (Vec<u8>, Vec<u8>) {
-    let program = program_of(rt, alloc, &COPY_FOUR);
-    let log = log_with(rt, alloc, &COPY_FOUR, &program, b"ABCD");
-    (program, log)
-}
 
 /// A prefix of up to so many bytes ends with this status, and this report or line.
 type Prefix = (usize, u8, &'static str);
@@ -72,11 +61,7 @@ const QUERIES: &[Prefix] = &[
 fn ending_of(length: usize, prefixes: &'static [Prefix]) -> Ending<'static> {
     for &(last, status, text) in prefixes {
         if length <= last {
-            return if status == 0 {
-                Ending::report(text)
-            } else {
-                Ending::refusal(status, text)
-            };
+            return Ending::of(status, text);
         }
     }
     Ending::refusal(0, "longer than the whole file")
@@ -84,55 +69,29 @@ fn ending_of(length: usize, prefixes: &'static [Prefix]) -> Ending<'static> {
 
 #[test]
 fn each_prefix_of_a_file_has_its_ending(rt: HostRuntime) {
-    let (program, log) = copied(&rt, rt.alloc());
+    let (program, log) = copied(&rt);
     let query = COPY.as_bytes();
     for length in 0..=program.len() {
-        assert_query(
-            &rt,
-            &program[..length],
-            &log,
-            query,
-            ending_of(length, PROGRAMS),
-        );
+        assert_copy(&rt, &program[..length], &log, ending_of(length, PROGRAMS));
     }
-    for length in 0..=log.len() {
-        assert_query(
-            &rt,
-            &program,
-            &log[..length],
-            query,
-            ending_of(length, LOGS),
-        );
-    }
+    assert_prefixes(&rt, &program, &log, LOGS);
     for length in 0..=query.len() {
-        assert_query(
-            &rt,
-            &program,
-            &log,
-            &query[..length],
-            ending_of(length, QUERIES),
-        );
+        let ending = ending_of(length, QUERIES);
+        assert_query(&rt, &program, &log, &query[..length], ending);
     }
 }
 
 /// Each prefix of a log ends as the table says.
-fn assert_prefixes<R: Threads + Wait + Sync + AllocGlobal + Abort>(
-    rt: &R,
-    program: &[u8],
-    log: &[u8],
-    prefixes: &'static [Prefix],
-) {
+fn assert_prefixes(rt: &impl Runtime, program: &[u8], log: &[u8], prefixes: &'static [Prefix]) {
     for length in 0..=log.len() {
-        let ending = ending_of(length, prefixes);
-        assert_query(rt, program, &log[..length], COPY.as_bytes(), ending);
+        assert_copy(rt, program, &log[..length], ending_of(length, prefixes));
     }
 }
 
 #[test]
 fn each_prefix_of_a_log_in_version_2_has_its_ending(rt: HostRuntime) {
-    let alloc = rt.alloc();
-    let program = program_of(&rt, alloc, &COPY_FOUR);
-    let log = wide_log_of(&rt, alloc, &program, 1, FOUR, COPIES);
+    let program = program(&rt, COPY_CODE);
+    let log = wide_log_of(&rt, &program, 1, FOUR, COPIES);
     assert_prefixes(&rt, &program, &log, WIDE_LOGS);
 }
 
@@ -197,27 +156,16 @@ const WIDE_CASES: &[WideCase] = &[
 ];
 
 /// The log of these records, patched, ends so.
-fn assert_wide<R: Threads + Wait + Sync + AllocGlobal + Abort>(
-    rt: &R,
-    program: &[u8],
-    case: &WideCase,
-) {
-    let alloc = rt.alloc();
+fn assert_wide(rt: &impl Runtime, program: &[u8], case: &WideCase) {
     let (channels, entries, patch, status, line) = *case;
-    let log = wide_log_of(rt, alloc, program, 1, channels, entries);
-    let log = patched(rt, alloc, &log, patch);
-    assert_query(
-        rt,
-        program,
-        &log,
-        COPY.as_bytes(),
-        Ending::refusal(status, line),
-    );
+    let log = wide_log_of(rt, program, 1, channels, entries);
+    let log = patched(rt, &log, patch);
+    assert_copy(rt, program, &log, Ending::refusal(status, line));
 }
 
 #[test]
 fn faults_of_version_2_are_told(rt: HostRuntime) {
-    let program = program_of(&rt, rt.alloc(), &COPY_FOUR);
+    let program = program(&rt, COPY_CODE);
     for case in WIDE_CASES {
         assert_wide(&rt, &program, case);
     }
@@ -259,84 +207,33 @@ pub const CHANGED_LOGS: &[(Patch, u8, &str)] = &[
     ),
 ];
 
-/// Whether the program or the log is changed.
-#[derive(Clone, Copy)]
-enum Changed {
-    Program,
-    Log,
-}
-
-/// With a patch of one of the two files the query ends so.
-fn assert_patched<R: Threads + Wait + Sync + AllocGlobal + Abort>(
-    rt: &R,
-    files: (&[u8], &[u8]),
-    changed: Changed,
-    patch: Patch,
-    ending: Ending<'_>,
-) {
-    let alloc = rt.alloc();
-    let (program, log) = files;
-    let query = COPY.as_bytes();
-    match changed {
-        Changed::Program => {
-            let bytes = patched(rt, alloc, program, patch);
-            assert_query(rt, &bytes, log, query, ending);
-        }
-        Changed::Log => {
-            let bytes = patched(rt, alloc, log, patch);
-            assert_query(rt, program, &bytes, query, ending);
-        }
-    }
+/// With these bytes changed in the program the query is refused so.
+fn assert_changed_program(rt: &impl Runtime, program: &[u8], log: &[u8], patch: Patch, line: &str) {
+    let changed = patched(rt, program, patch);
+    let ending = Ending::refusal(3, line);
+    assert_copy(rt, &changed, log, ending);
 }
 
 #[test]
-fn changed_bytes_are_refused(rt: HostRuntime) {
-    let (program, log) = copied(&rt, rt.alloc());
-    let files = (program.as_slice(), log.as_slice());
+fn changed_programs_are_refused(rt: HostRuntime) {
+    let (program, log) = copied(&rt);
     for &(patch, line) in CHANGED_PROGRAMS {
-        assert_patched(
-            &rt,
-            files,
-            Changed::Program,
-            patch,
-            Ending::refusal(3, line),
-        );
-    }
-    for &(patch, status, line) in CHANGED_LOGS {
-        assert_patched(
-            &rt,
-            files,
-            Changed::Log,
-            patch,
-            Ending::refusal(status, line),
-        );
+        assert_changed_program(&rt, &program, &log, patch, line);
     }
 }
 
 /// The log and one byte more is refused with this line.
-fn assert_trailing<R: Threads + Wait + Sync + AllocGlobal + Abort>(
-    rt: &R,
-    program: &[u8],
-    log: &[u8],
-    line: &str,
-) {
-    let mut longer = owned(rt, rt.alloc(), log);
+fn assert_trailing(rt: &impl Runtime, program: &[u8], log: &[u8], line: &str) {
+    let mut longer = owned(rt, log);
     push(rt, &mut longer, &[0]);
-    assert_query(
-        rt,
-        program,
-        &longer,
-        COPY.as_bytes(),
-        Ending::refusal(4, line),
-    );
+    assert_copy(rt, program, &longer, Ending::refusal(4, line));
 }
 
 #[test]
 fn a_byte_after_a_log_is_refused(rt: HostRuntime) {
-    let alloc = rt.alloc();
-    let (program, log) = copied(&rt, alloc);
+    let (program, log) = copied(&rt);
     assert_trailing(&rt, &program, &log, "jet: log 7 Trailing at 107\n");
-    let wide = wide_log_of(&rt, alloc, &program, 1, FOUR, COPIES);
+    let wide = wide_log_of(&rt, &program, 1, FOUR, COPIES);
     assert_trailing(&rt, &program, &wide, "jet: log 7 Trailing at 123\n");
 }
 
@@ -360,27 +257,26 @@ const FAULTY_QUERIES: &[(&[u8], &str)] = &[
 
 #[test]
 fn faulty_queries_are_told(rt: HostRuntime) {
-    let (program, log) = copied(&rt, rt.alloc());
+    let (program, log) = copied(&rt);
     for &(query, line) in FAULTY_QUERIES {
         assert_query(&rt, &program, &log, query, Ending::refusal(6, line));
     }
 }
 
 /// The program with a second program header after the first, of a type that isn't loaded.
-fn with_two_headers(rt: &impl Abort, alloc: Global, program: &[u8]) -> Vec<u8> {
+fn with_two_headers(rt: &impl Runtime, program: &[u8]) -> Vec<u8> {
     let (first, code) = program.split_at(program.len().min(84));
-    let mut two = owned(rt, alloc, first);
+    let mut two = owned(rt, first);
     push_words(rt, &mut two, [0x7000_0003, 0, 0, 0, 0, 0, 0, 0].as_slice());
     push(rt, &mut two, code);
-    let counted = patched(rt, alloc, &two, (44, b"\x02"));
-    patched(rt, alloc, &counted, (56, b"\x74"))
+    let counted = patched(rt, &two, (44, b"\x02"));
+    patched(rt, &counted, (56, b"\x74"))
 }
 
 #[test]
 fn a_header_of_another_type_is_skipped(rt: HostRuntime) {
-    let alloc = rt.alloc();
-    let program = program_of(&rt, alloc, &COPY_FOUR);
-    let two = with_two_headers(&rt, alloc, &program);
-    let log = log_with(&rt, alloc, &COPY_FOUR, &two, b"ABCD");
-    assert_query(&rt, &two, &log, COPY.as_bytes(), Ending::report(COPIED));
+    let program = program(&rt, COPY_CODE);
+    let two = with_two_headers(&rt, &program);
+    let log = log_of(&rt, &two, 1, 1, COPIES);
+    assert_copy(&rt, &two, &log, Ending::report(COPIED));
 }

@@ -1,41 +1,38 @@
 //! Recorded runs: their numbers, what they wrote, and where they diverge.
 
-use super::guests::{COPY_CODE, COPY_FOUR};
+use super::guests::COPY_CODE;
 use super::refusals::CHANGED_LOGS;
 use super::{
-    BASE, BY_STEPS, COPY, Ending, Entry, Line, NO_INSTRUCTION, Patch, QUERY, TIME, assert_command,
-    log_of, log_with, patched, program, program_of,
+    BASE, BY_STEPS, COPY, Ending, Entry, Line, NO_INSTRUCTION, Patch, QUERY, Runtime, TIME,
+    assert_command, copied, log_of, patched, program,
 };
 use guest_assembler::{Instr, code};
-use std::process::Abort;
-use std::sync::Wait;
-use std::thread::Threads;
 
-pub const REPLAY: Line = &["jet", "replay", "prog", "log"];
+pub const REPLAY: Line = "jet replay prog log";
 
-pub const OUTPUT: Line = &["jet", "output", "prog", "log", "1"];
+pub const OUTPUT: Line = "jet output prog log 1";
 
-pub const CONVERT: Line = &["jet", "convert", "prog", "log", "new"];
+pub const CONVERT: Line = "jet convert prog log new";
 
-pub const INFLUENCE: Line = &["jet", "influence", "prog", "log", "query"];
+pub const INFLUENCE: Line = "jet influence prog log query";
 
-pub const QUERIES: Line = &["jet", "queries", "prog", "log", "query"];
+pub const QUERIES: Line = "jet queries prog log query";
 
-pub const CALLS: Line = &["jet", "calls", "prog", "log"];
+pub const CALLS: Line = "jet calls prog log";
 
-pub const INPUT: Line = &["jet", "input", "prog", "log", "0"];
+pub const INPUT: Line = "jet input prog log 0";
 
-pub const STACK: Line = &["jet", "stack", "prog", "log", "3"];
+pub const STACK: Line = "jet stack prog log 3";
 
-pub const SHOW: Line = &["jet", "show", "prog", "log", "query"];
+pub const SHOW: Line = "jet show prog log query";
 
-pub const DECISIONS: Line = &["jet", "decisions", "prog", "log", "query"];
+pub const DECISIONS: Line = "jet decisions prog log query";
 
-pub const PATH: Line = &["jet", "path", "prog", "log", "query"];
+pub const PATH: Line = "jet path prog log query";
 
-pub const PAGE: Line = &["jet", "page", "prog", "log", "query", "page"];
+pub const PAGE: Line = "jet page prog log query page";
 
-pub const CORE: Line = &["jet", "core", "prog", "log", "12", "core"];
+pub const CORE: Line = "jet core prog log 12 core";
 
 /// The commands over a log, and a query in many epochs.
 pub const READERS: [Line; 15] = [
@@ -173,22 +170,17 @@ const RUNS: &[(Line, &[Instr], &[Entry], &str)] = &[
     (INPUT, COPY_CODE, COPIES, "ABCD"),
     (INPUT, COPY_CODE, CUT, "ABCD"),
     (INPUT, COPY_CODE, &[Entry::Limit(5)], ""),
-    (&["jet", "input", "prog", "log", "1"], COPY_CODE, COPIES, ""),
-    (
-        &["jet", "input", "prog", "log", "15"],
-        COPY_CODE,
-        COPIES,
-        "",
-    ),
+    ("jet input prog log 1", COPY_CODE, COPIES, ""),
+    ("jet input prog log 15", COPY_CODE, COPIES, ""),
     // The guest calls at 0x10000, and in that at 0x10010, and returns from both.
     (
-        &["jet", "stack", "prog", "log", "0"],
+        "jet stack prog log 0",
         CALL_TWICE,
         CALLED,
         "0x00010000\nend 1\n",
     ),
     (
-        &["jet", "stack", "prog", "log", "1"],
+        "jet stack prog log 1",
         CALL_TWICE,
         CALLED,
         "0x0001000c\n0x00010000\nend 2\n",
@@ -200,39 +192,34 @@ const RUNS: &[(Line, &[Instr], &[Entry], &str)] = &[
         "0x0001001c\n0x00010010\n0x00010000\nend 3\n",
     ),
     (
-        &["jet", "stack", "prog", "log", "4"],
+        "jet stack prog log 4",
         CALL_TWICE,
         CALLED,
         "0x00010014\n0x00010000\nend 2\n",
     ),
     (
-        &["jet", "stack", "prog", "log", "6"],
+        "jet stack prog log 6",
         CALL_TWICE,
         CALLED,
         "0x00010004\nend 1\n",
     ),
     // At the run's end the pc is behind the exit's ECALL; the run has no later time.
     (
-        &["jet", "stack", "prog", "log", "8"],
+        "jet stack prog log 8",
         CALL_TWICE,
         CALLED,
         "0x0001000c\nend 1\n",
     ),
+    ("jet stack prog log 9", CALL_TWICE, CALLED, "end 0\n"),
     (
-        &["jet", "stack", "prog", "log", "9"],
-        CALL_TWICE,
-        CALLED,
-        "end 0\n",
-    ),
-    (
-        &["jet", "stack", "prog", "log", "1099511627776"],
+        "jet stack prog log 1099511627776",
         CALL_TWICE,
         CALLED,
         "end 0\n",
     ),
     // Several times, in the order of the words, one of them twice.
     (
-        &["jet", "stack", "prog", "log", "4", "9", "0", "4"],
+        "jet stack prog log 4 9 0 4",
         CALL_TWICE,
         CALLED,
         "stack 4\n0x00010014\n0x00010000\nend 2\nstack 9\nend 0\nstack 0\n0x00010000\nend 1\n\
@@ -261,25 +248,10 @@ const RUNS: &[(Line, &[Instr], &[Entry], &str)] = &[
     (CALLS, WRITE_ON_TWO, ON_TWO, CALLS_ON_TWO),
     (OUTPUT, COPY_CODE, COPIES, "ABCD"),
     (OUTPUT, COPY_CODE, CUT, ""),
-    (
-        &["jet", "output", "prog", "log", "0"],
-        COPY_CODE,
-        COPIES,
-        "",
-    ),
-    (
-        &["jet", "output", "prog", "log", "15"],
-        COPY_CODE,
-        COPIES,
-        "",
-    ),
+    ("jet output prog log 0", COPY_CODE, COPIES, ""),
+    ("jet output prog log 15", COPY_CODE, COPIES, ""),
     (OUTPUT, WRITE_ON_TWO, ON_TWO, "ABCDA"),
-    (
-        &["jet", "output", "prog", "log", "2"],
-        WRITE_ON_TWO,
-        ON_TWO,
-        "A",
-    ),
+    ("jet output prog log 2", WRITE_ON_TWO, ON_TWO, "A"),
     (
         REPLAY,
         WRITE_ON_TWO,
@@ -339,28 +311,22 @@ const DIVERGING: &[(&[Instr], &[Entry], &str)] = &[
 ];
 
 /// Each command is refused so over these files.
-fn assert_refused<R: Threads + Wait + Sync + AllocGlobal + Abort>(
-    rt: &R,
-    program: &[u8],
-    log: &[u8],
-    ending: Ending<'_>,
-) {
+fn assert_refused(rt: &impl Runtime, program: &[u8], log: &[u8], ending: Ending<'_>) {
     for line in READERS {
         assert_command(rt, line, program, log, COPY.as_bytes(), ending);
     }
 }
 
 /// A command over the log of these records ends so.
-fn assert_run<R: Threads + Wait + Sync + AllocGlobal + Abort>(
-    rt: &R,
+fn assert_run(
+    rt: &impl Runtime,
     line: Line,
     code: &[Instr],
     entries: &[Entry],
     ending: Ending<'_>,
 ) {
-    let alloc = rt.alloc();
-    let program = program(rt, alloc, code);
-    let log = log_of(rt, alloc, &program, 1, 1, entries);
+    let program = program(rt, code);
+    let log = log_of(rt, &program, 1, 1, entries);
     assert_command(rt, line, &program, &log, COPY.as_bytes(), ending);
 }
 
@@ -381,22 +347,14 @@ fn a_run_that_diverges_is_refused(rt: HostRuntime) {
 }
 
 /// Each command is refused so with these bytes changed in the log.
-fn assert_changed<R: Threads + Wait + Sync + AllocGlobal + Abort>(
-    rt: &R,
-    program: &[u8],
-    log: &[u8],
-    patch: Patch,
-    ending: Ending<'_>,
-) {
-    let changed = patched(rt, rt.alloc(), log, patch);
+fn assert_changed(rt: &impl Runtime, program: &[u8], log: &[u8], patch: Patch, ending: Ending<'_>) {
+    let changed = patched(rt, log, patch);
     assert_refused(rt, program, &changed, ending);
 }
 
 #[test]
 fn a_changed_log_is_refused(rt: HostRuntime) {
-    let alloc = rt.alloc();
-    let program = program_of(&rt, alloc, &COPY_FOUR);
-    let log = log_with(&rt, alloc, &COPY_FOUR, &program, b"ABCD");
+    let (program, log) = copied(&rt);
     for &(patch, status, said) in CHANGED_LOGS {
         assert_changed(&rt, &program, &log, patch, Ending::refusal(status, said));
     }
@@ -405,12 +363,10 @@ fn a_changed_log_is_refused(rt: HostRuntime) {
 /// One byte of the log is missing; and one page can't hold the program.
 #[test]
 fn a_log_that_does_not_fit_is_refused(rt: HostRuntime) {
-    let alloc = rt.alloc();
-    let program = program_of(&rt, alloc, &COPY_FOUR);
-    let log = log_with(&rt, alloc, &COPY_FOUR, &program, b"ABCD");
+    let (program, log) = copied(&rt);
     let short = Ending::refusal(4, "jet: log 3 Short at 98\n");
     assert_refused(&rt, &program, &log[..log.len().min(106)], short);
-    let wide = patched(&rt, alloc, &program, (72, b"\0\x20\0\0"));
-    let log_wide = log_with(&rt, alloc, &COPY_FOUR, &wide, b"ABCD");
+    let wide = patched(&rt, &program, (72, b"\0\x20\0\0"));
+    let log_wide = log_of(&rt, &wide, 1, 1, COPIES);
     assert_refused(&rt, &wide, &log_wide, Ending::refusal(3, "jet: window 1\n"));
 }

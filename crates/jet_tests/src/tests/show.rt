@@ -5,19 +5,7 @@ use super::runs::SHOW;
 use super::{COMPUTE, COPY, Ending, Line, assert_guest};
 
 /// The words with one step in each epoch, many workers and the smallest links.
-const BY_STEPS: Line = &[
-    "jet",
-    "show",
-    "prog",
-    "log",
-    "query",
-    "--epoch",
-    "1",
-    "--workers",
-    "8",
-    "--link",
-    "1",
-];
+const BY_STEPS: Line = "jet show prog log query --epoch 1 --workers 8 --link 1";
 
 /// Each byte of an exclusive or comes from the same byte of both words.
 const OF_XOR: &str = "1:0-1 \"\\x04\" < 0:0-1 \"A\" 0:4-5 \"E\"

@@ -4,7 +4,7 @@ ghost use Rattle.std.specs.Prelude.{IfOk};
 ghost use Rattle.epoch_engine.specs.Collecting.{AreAtBeginnings, IsCollectedOf};
 
 use super::{COPY, query_of, sequential_report};
-use crate::guests::{Recorded, copy_four, copy_four_recorded};
+use crate::guests::{COPY_FOUR, Recorded, Runtime, job_of, recorded};
 use checkpoints::Checkpoints;
 use epoch_cut::laws::cut_times_are_cutting;
 use epoch_cut::{Cuts, cuts};
@@ -18,21 +18,12 @@ use query_lang::Query;
 use replayer::steps_of;
 use run_query::{Part, check_and_query};
 use sink_collect::{Report, text};
-use std::alloc::Global;
-use std::process::Abort;
-use std::sync::Wait;
-use std::thread::Threads;
 
 /// The report of a query over the copy of four bytes, found while its log was checked. Its epochs have so many steps.
-fn checked_report<G: Gate, R: Threads + Wait + Abort + Sync>(
-    rt: &R,
-    alloc: Global,
-    gate: &G,
-    wanted: &Query,
-    length: u64,
-) -> Report {
+fn checked_report<G: Gate>(rt: &impl Runtime, gate: &G, wanted: &Query, length: u64) -> Report {
+    let alloc = rt.alloc();
     assert!(rt; 1 <= length);
-    let Recorded { program, log } = copy_four_recorded(rt, alloc);
+    let Recorded { program, log } = recorded(rt, &COPY_FOUR);
     cut_times_are_cutting();
     let cuts = cuts(steps_of(&log), length).expect(rt, "few epochs");
     let line = ClosureEngine {
@@ -56,19 +47,14 @@ fn checked_report<G: Gate, R: Threads + Wait + Abort + Sync>(
 
 /// By epochs of so many steps, which are so many, a query has the report of the whole run, and each epoch enters the gate
 /// once.
-fn assert_checked<R: Threads + Wait + Abort + Sync>(
-    rt: &R,
-    alloc: Global,
-    query: &[u8],
-    length: u64,
-    epochs: u32,
-) {
-    let job = copy_four(rt, alloc);
-    let wanted = query_of(rt, alloc, query);
+fn assert_checked(rt: &impl Runtime, query: &[u8], length: u64, epochs: u32) {
+    let alloc = rt.alloc();
+    let job = job_of(rt, &COPY_FOUR);
+    let wanted = query_of(rt, query);
     let gate = CountingGate::new(alloc, epochs).expect(rt, "memory");
-    let found = checked_report(rt, alloc, &gate, &wanted, length);
+    let found = checked_report(rt, &gate, &wanted, length);
     assert!(rt; gate.is_entered_by_each_once());
-    let whole = text(alloc, &sequential_report(rt, alloc, &job, &wanted)).expect(rt, "memory");
+    let whole = text(alloc, &sequential_report(rt, &job, &wanted)).expect(rt, "memory");
     let lines = text(alloc, &found).expect(rt, "memory");
     assert!(rt; lines.as_slice() == whole.as_slice());
 }
@@ -86,10 +72,9 @@ const LENGTHS: [(u64, u32); 4] = [(12, 1), (1_099_511_627_776, 1), (6, 2), (5, 3
 
 #[test]
 fn a_run_has_its_report_while_its_log_is_checked(rt: HostRuntime) {
-    let alloc = rt.alloc();
     for query in QUERIES {
         for (length, epochs) in LENGTHS {
-            assert_checked(&rt, alloc, query, length, epochs);
+            assert_checked(&rt, query, length, epochs);
         }
     }
 }
