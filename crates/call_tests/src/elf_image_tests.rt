@@ -1,9 +1,8 @@
 //! Files that are loaded or refused, with what the gABI says of each.
 
-use crate::asserts::assert_same;
+use crate::asserts::{Runtime, assert_same};
 use elf_image::{Image, ImageKind, load};
 use no_memory::Fault;
-use std::alloc::Global;
 use std::process::Abort;
 
 /// A file of one segment at 0x10000, which copies four bytes from channel 0 to channel 1: 13 words
@@ -38,7 +37,8 @@ const P_FILESZ: usize = 17;
 const P_MEMSZ: usize = 18;
 
 /// The file with some words changed, and words put in before the instructions.
-fn changed(rt: &impl Abort, alloc: Global, changes: &[(usize, u32)], entries: &[u32]) -> Vec<u8> {
+fn changed(rt: &impl Runtime, changes: &[(usize, u32)], entries: &[u32]) -> Vec<u8> {
+    let alloc = rt.alloc();
     let mut words = Vec::from_slice(alloc, &COPY_FOUR[..21]).expect(rt, "memory");
     words.extend_from_slice(entries).expect(rt, "memory");
     words
@@ -58,8 +58,8 @@ fn changed(rt: &impl Abort, alloc: Global, changes: &[(usize, u32)], entries: &[
 }
 
 /// The first fault of a file, if it isn't loaded.
-fn fault_of(rt: &impl Abort, alloc: Global, file: &[u8]) -> Option<ImageKind> {
-    match load(alloc, file) {
+fn fault_of(rt: &impl Runtime, file: &[u8]) -> Option<ImageKind> {
+    match load(rt.alloc(), file) {
         Ok(_) => None,
         Err(Fault::At(kind)) => Some(kind),
         Err(Fault::NoMemory(no_memory)) => panic!(rt; "{no_memory}"),
@@ -68,14 +68,13 @@ fn fault_of(rt: &impl Abort, alloc: Global, file: &[u8]) -> Option<ImageKind> {
 
 /// The changed file has this fault, or is loaded.
 fn assert_fault(
-    rt: &impl Abort,
-    alloc: Global,
+    rt: &impl Runtime,
     changes: &[(usize, u32)],
     entries: &[u32],
     want: Option<ImageKind>,
 ) {
-    let file = changed(rt, alloc, changes, entries);
-    assert_same(rt, fault_of(rt, alloc, &file), want);
+    let file = changed(rt, changes, entries);
+    assert_same(rt, fault_of(rt, &file), want);
 }
 
 /// The image has one segment, at this place, of the file's bytes after its headers.
@@ -91,12 +90,7 @@ fn assert_segment(rt: &impl Abort, image: &Image, place: u32, size: u32, file: &
 
 #[test]
 fn a_sound_file_is_loaded(rt: HostRuntime) {
-    let file = changed(
-        &rt,
-        rt.alloc(),
-        &[(P_VADDR, 0x20ff0), (ENTRY, 0x20ff4)],
-        &[],
-    );
+    let file = changed(&rt, &[(P_VADDR, 0x20ff0), (ENTRY, 0x20ff4)], &[]);
     let image = load(rt.alloc(), &file).expect(&rt, "an image");
     assert_same(&rt, image.base(), 0x20000);
     assert_same(&rt, image.entry(), 0x20ff4);
@@ -106,7 +100,7 @@ fn a_sound_file_is_loaded(rt: HostRuntime) {
 
 #[test]
 fn each_prefix_has_its_fault(rt: HostRuntime) {
-    let file = changed(&rt, rt.alloc(), &[], &[]);
+    let file = changed(&rt, &[], &[]);
     assert!(rt; file.len() == 132);
     for length in 0..133 {
         let want = match length {
@@ -115,11 +109,7 @@ fn each_prefix_has_its_fault(rt: HostRuntime) {
             84..132 => Some(ImageKind::Segment),
             _ => None,
         };
-        assert_eq!(rt;
-            fault_of(&rt, rt.alloc(), &file[..length]),
-            want,
-            "at {length}"
-        );
+        assert_eq!(rt; fault_of(&rt, &file[..length]), want, "at {length}");
     }
 }
 
@@ -150,7 +140,7 @@ fn each_changed_word_has_its_fault(rt: HostRuntime) {
         (ENTRY, 0x10030, Some(ImageKind::Entry)),
     ];
     for (at, word, want) in cases {
-        assert_fault(&rt, rt.alloc(), &[(at, word)], &[], want);
+        assert_fault(&rt, &[(at, word)], &[], want);
     }
 }
 
@@ -168,19 +158,18 @@ fn a_second_entry_counts_as_the_first(rt: HostRuntime) {
     ];
     for (size, second, want) in cases {
         let changes = [(PHNUM, 2), (P_OFFSET, 116), (P_MEMSZ, size)];
-        assert_fault(&rt, rt.alloc(), &changes, &second, want);
+        assert_fault(&rt, &changes, &second, want);
     }
 }
 
 /// A file of a segment of 70,000 bytes, each of which is loaded.
 #[test]
 fn a_long_file_is_loaded(rt: HostRuntime) {
-    let alloc = rt.alloc();
-    let mut file = changed(&rt, alloc, &[(P_FILESZ, 70_000), (P_MEMSZ, 70_000)], &[]);
+    let mut file = changed(&rt, &[(P_FILESZ, 70_000), (P_MEMSZ, 70_000)], &[]);
     for i in file.len()..84 + 70_000 {
         file.push((i % 251) as u8).expect(&rt, "memory");
     }
     assert_same(&rt, file.len(), 70_084);
-    let image = load(alloc, &file).expect(&rt, "an image");
+    let image = load(rt.alloc(), &file).expect(&rt, "an image");
     assert_segment(&rt, &image, 0x10000, 70_000, &file);
 }

@@ -2,18 +2,17 @@
 
 ghost use Rattle.std.specs.Prelude.{◌≤◌};
 
-use crate::asserts::assert_same;
+use crate::asserts::{Runtime, assert_same};
 use epoch_cut::{CutFault, cuts};
-use std::alloc::Global;
-use std::process::Abort;
 
 /// A run of so many steps.
 const LONG: u64 = 1 << 40;
 
 /// The number of each epoch, and the times before its first and after its last step.
-fn epochs(rt: &impl Abort, alloc: Global, steps: u64, length: u64) -> Vec<(u32, u64, u64)>
+fn epochs(rt: &impl Runtime, steps: u64, length: u64) -> Vec<(u32, u64, u64)>
     requires { 1 ≤ length }
 {
+    let alloc = rt.alloc();
     let cuts = cuts(steps, length).expect(rt, "few epochs");
     let tickets = cuts.tickets(alloc).expect(rt, "memory");
     let mut epochs = Vec::new(alloc);
@@ -36,24 +35,15 @@ fn count(steps: u64, length: u64) -> Result<u32, u64>
 
 #[test]
 fn epochs_are_as_long_as_said(rt: HostRuntime) {
-    let alloc = rt.alloc();
+    assert_same(&rt, epochs(&rt, 0, 6).as_slice(), [(0, 0, 0)].as_slice());
+    assert_same(&rt, epochs(&rt, 1, 6).as_slice(), [(0, 0, 1)].as_slice());
     assert_same(
         &rt,
-        epochs(&rt, alloc, 0, 6).as_slice(),
-        [(0, 0, 0)].as_slice(),
-    );
-    assert_same(
-        &rt,
-        epochs(&rt, alloc, 1, 6).as_slice(),
-        [(0, 0, 1)].as_slice(),
-    );
-    assert_same(
-        &rt,
-        epochs(&rt, alloc, 12, 6).as_slice(),
+        epochs(&rt, 12, 6).as_slice(),
         [(0, 0, 6), (1, 6, 12)].as_slice(),
     );
     let uneven = [(0, 0, 7), (1, 7, 14), (2, 14, 18)];
-    assert_same(&rt, epochs(&rt, alloc, 18, 7).as_slice(), uneven.as_slice());
+    assert_same(&rt, epochs(&rt, 18, 7).as_slice(), uneven.as_slice());
 }
 
 #[test]

@@ -2,7 +2,6 @@
 
 use crate::asserts::assert_same;
 use lists::{contains, is_subset, merged};
-use std::process::Abort;
 
 #[test]
 fn unions_have_the_members_of_both(rt: HostRuntime) {

@@ -2,12 +2,11 @@
 
 ghost use Rattle.merge_log.specs.Log.{IsNode};
 
-use crate::asserts::assert_same;
+use crate::asserts::{Runtime, assert_same};
 use crate::source_runs_tests::{FROM_3, UP_TO_3};
 use flow_model::{Loc, SourceByte};
 use merge_log::{Leaf, ManyTerms, MergeLog, Node, TermsReader};
 use source_runs::SourceRun;
-use std::alloc::Global;
 use std::process::Abort;
 
 /// How a node is asked for.
@@ -105,19 +104,20 @@ fn node_of(rt: &impl Abort, log: &mut MergeLog, asked: &Asked) -> Node
 }
 
 /// Compares a node, and the leaves under it, with what is written out.
-fn compare(rt: &impl Abort, alloc: Global, log: &mut MergeLog, case: &Case) {
+fn compare(rt: &impl Runtime, log: &mut MergeLog, case: &Case) {
     let (asked, want, leaves) = case;
     let node = node_of(rt, log, asked);
     assert_same(rt, node, *want);
-    let found = log.terms(alloc, node).expect(rt, "memory");
+    let found = log.terms(rt.alloc(), node).expect(rt, "memory");
     assert_same(rt, found.as_slice(), *leaves);
 }
 
 /// The log of the first cases and then of these, in turn.
-fn log_of(rt: &impl Abort, alloc: Global, cases: &[Case]) -> MergeLog {
+fn log_of(rt: &impl Runtime, cases: &[Case]) -> MergeLog {
+    let alloc = rt.alloc();
     let mut log = MergeLog::new(alloc);
     for case in FIRST_CASES.iter().chain(cases) {
-        compare(rt, alloc, &mut log, case);
+        compare(rt, &mut log, case);
     }
     let none = log.terms(alloc, 0).expect(rt, "memory");
     assert_same(rt, none.len(), 0);
@@ -126,23 +126,23 @@ fn log_of(rt: &impl Abort, alloc: Global, cases: &[Case]) -> MergeLog {
 
 #[test]
 fn equal_nodes_are_one(rt: HostRuntime) {
-    let log = log_of(&rt, rt.alloc(), &UNION_CASES);
+    let log = log_of(&rt, &UNION_CASES);
     assert_same(&rt, log.size(), 7);
 }
 
 #[test]
 fn a_union_absorbs_its_operands(rt: HostRuntime) {
-    let log = log_of(&rt, rt.alloc(), &ABSORBING_CASES);
+    let log = log_of(&rt, &ABSORBING_CASES);
     assert_same(&rt, log.size(), 6);
 }
 
 #[test]
 fn runs_are_read_as_their_bytes(rt: HostRuntime) {
-    let log = log_of(&rt, rt.alloc(), &RUN_CASES);
+    let log = log_of(&rt, &RUN_CASES);
     assert_same(&rt, log.size(), 9);
     for case in &RUN_CASES {
         let (_, node, leaves) = case;
-        let found = leaves_between(&rt, rt.alloc(), &log, 6, *node, 4);
+        let found = leaves_between(&rt, &log, 6, *node, 4);
         assert_same(&rt, found.as_slice(), *leaves);
     }
     let mut reader = TermsReader::new(rt.alloc());
@@ -159,8 +159,7 @@ fn runs_are_read_as_their_bytes(rt: HostRuntime) {
 /// A log of 70,000 source bytes has a node for each, in their order.
 #[test]
 fn a_long_log_has_its_nodes(rt: HostRuntime) {
-    let alloc = rt.alloc();
-    let mut log = MergeLog::new(alloc);
+    let mut log = MergeLog::new(rt.alloc());
     for offset in 0..70_000 {
         let byte = SourceByte { channel: 0, offset };
         let leaf = log.leaf_source(byte).expect(&rt, "memory");
@@ -171,13 +170,13 @@ fn a_long_log_has_its_nodes(rt: HostRuntime) {
 
 /// The leaves of a node, which one walk reads with two other nodes.
 fn leaves_between(
-    rt: &impl Abort,
-    alloc: Global,
+    rt: &impl Runtime,
     log: &MergeLog,
     before: Node,
     node: Node,
     after: Node,
 ) -> Vec<Leaf> {
+    let alloc = rt.alloc();
     let size = log.size();
     let mut reader = TermsReader::new(alloc);
     if before < size && node < size && after < size {
@@ -190,10 +189,10 @@ fn leaves_between(
 
 #[test]
 fn one_walk_reads_several_nodes(rt: HostRuntime) {
-    let log = log_of(&rt, rt.alloc(), &UNION_CASES);
+    let log = log_of(&rt, &UNION_CASES);
     for case in FIRST_CASES.iter().chain(&UNION_CASES) {
         let (_, node, leaves) = case;
-        let found = leaves_between(&rt, rt.alloc(), &log, 6, *node, 4);
+        let found = leaves_between(&rt, &log, 6, *node, 4);
         assert_same(&rt, found.as_slice(), *leaves);
     }
 }

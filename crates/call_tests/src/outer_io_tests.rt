@@ -2,12 +2,12 @@
 
 mod disk;
 
+use crate::asserts::Runtime;
 use disk::{Disk, Told};
 use memory_outside::*;
 use no_memory::Fault;
 use outer_io::*;
 use std::alloc::Global;
-use std::process::Abort;
 use std::time::Duration;
 use std::{fs, io};
 
@@ -18,7 +18,8 @@ const NEVER: u64 = 99;
 const MARK: &[u8] = b"MARK";
 
 /// One file of five bytes.
-fn files(rt: &impl Abort, alloc: Global) -> Vec<MemoryFile> {
+fn files(rt: &impl Runtime) -> Vec<MemoryFile> {
+    let alloc = rt.alloc();
     let mut files = Vec::new(alloc);
     let file = MemoryFile {
         name: String::from_str(alloc, "a").expect(rt, "memory"),
@@ -29,9 +30,10 @@ fn files(rt: &impl Abort, alloc: Global) -> Vec<MemoryFile> {
 }
 
 /// That file, moved two bytes at a time, where the call of this number fails.
-fn memory(rt: &impl Abort, alloc: Global, failing: u64) -> MemoryStore {
+fn memory(rt: &impl Runtime, failing: u64) -> MemoryStore {
+    let alloc = rt.alloc();
     let failing = [failing].as_slice().to_vec(alloc).expect(rt, "memory");
-    MemoryStore::new(alloc, files(rt, alloc), failing, 2, 5).expect(rt, "memory")
+    MemoryStore::new(alloc, files(rt), failing, 2, 5).expect(rt, "memory")
 }
 
 /// The text of the file, or why it is not read whole.
@@ -45,15 +47,15 @@ fn is_read<S: Store>(alloc: Global, store: &mut S, name: &str, max: u16, want: &
 }
 
 /// Whether the file is read so where the call of this number fails.
-fn is_read_in_memory(rt: &impl Abort, alloc: Global, failing: u64, max: u16, want: &str) -> bool {
-    is_read(alloc, &mut memory(rt, alloc, failing), "a", max, want)
+fn is_read_in_memory(rt: &impl Runtime, failing: u64, max: u16, want: &str) -> bool {
+    is_read(rt.alloc(), &mut memory(rt, failing), "a", max, want)
 }
 
 /// Whether the file has this content after it was written, where the call of this number fails.
-fn is_written(rt: &impl Abort, alloc: Global, failing: u64, want: &str) -> bool {
-    let mut store = memory(rt, alloc, failing);
+fn is_written(rt: &impl Runtime, failing: u64, want: &str) -> bool {
+    let mut store = memory(rt, failing);
     let written = write_file(&mut store, "a", b"vwxyz");
-    written.is_ok() == (failing == NEVER) && is_read(alloc, &mut store, "a", 5, want)
+    written.is_ok() == (failing == NEVER) && is_read(rt.alloc(), &mut store, "a", 5, want)
 }
 
 #[test]
@@ -63,21 +65,16 @@ fn files_in_memory(rt: HostRuntime) {
         (NEVER, 4, "too long"),
         (2, 5, "read fault"),
     ] {
-        assert!(rt;
-            is_read_in_memory(&rt, rt.alloc(), failing, max, want),
-            "{want}"
-        );
+        assert!(rt; is_read_in_memory(&rt, failing, max, want), "{want}");
     }
     for (failing, want) in [(NEVER, "vwxyz"), (2, "abcde"), (4, "abcde")] {
-        assert!(rt;
-            is_written(&rt, rt.alloc(), failing, want),
-            "call {failing}"
-        );
+        assert!(rt; is_written(&rt, failing, want), "call {failing}");
     }
 }
 
 /// Whether so much of a text is written, ten bytes a put, where the put of this number fails.
-fn is_text_written(rt: &impl Abort, alloc: Global, failing: u64, want: &str) -> bool {
+fn is_text_written(rt: &impl Runtime, failing: u64, want: &str) -> bool {
+    let alloc = rt.alloc();
     let failing = [failing].as_slice().to_vec(alloc).expect(rt, "memory");
     let mut sink = MemorySink::new(alloc, failing, 10, 16).expect(rt, "memory");
     let written = write_whole(&mut sink, b"1:0 0:0\n1:1 0:1\n");
@@ -85,8 +82,9 @@ fn is_text_written(rt: &impl Abort, alloc: Global, failing: u64, want: &str) -> 
 }
 
 /// Whether a sure store and a sure sink take a text.
-fn are_sure(rt: &impl Abort, alloc: Global, text: &str) -> bool {
-    let mut store = SureStore::new(alloc, files(rt, alloc), 3).expect(rt, "memory");
+fn are_sure(rt: &impl Runtime, text: &str) -> bool {
+    let alloc = rt.alloc();
+    let mut store = SureStore::new(alloc, files(rt), 3).expect(rt, "memory");
     let mut sink = SureSink::new(alloc, 3).expect(rt, "memory");
     let written = write_file(&mut store, "c", text.as_bytes());
     let shown = write_whole(&mut sink, text.as_bytes());
@@ -99,12 +97,9 @@ fn are_sure(rt: &impl Abort, alloc: Global, text: &str) -> bool {
 #[test]
 fn texts_in_memory(rt: HostRuntime) {
     for (failing, want) in [(NEVER, "1:0 0:0\n1:1 0:1\n"), (1, "1:0 0:0\n1:")] {
-        assert!(rt;
-            is_text_written(&rt, rt.alloc(), failing, want),
-            "put {failing}"
-        );
+        assert!(rt; is_text_written(&rt, failing, want), "put {failing}");
     }
-    assert!(rt; are_sure(&rt, rt.alloc(), "xyz"));
+    assert!(rt; are_sure(&rt, "xyz"));
 }
 
 /// Whether the machine's files are read and written so: one is made, read and too long, another is missing, and a

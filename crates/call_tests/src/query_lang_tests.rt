@@ -1,12 +1,12 @@
 //! Texts against what they stand for.
 
+use crate::asserts::Runtime;
 use flow_model::{InnerSink, Loc, Rule, SinkByte, SourceByte};
 use no_memory::Fault;
 use query_lang::{
     FaultInQuery, OtherRule, Query, QueryFault, QueryKind, TogetherFault, parse, together,
 };
 use std::alloc::Global;
-use std::process::Abort;
 
 /// Texts, and the line and the kind of their first fault.
 const FAULTS: [(&[u8], u32, QueryKind); 20] = [
@@ -122,12 +122,8 @@ fn good_texts_choose_their_bytes(rt: HostRuntime) {
 }
 
 /// One query of the two that these texts stand for.
-fn of_two(
-    rt: &impl Abort,
-    alloc: Global,
-    first: &[u8],
-    second: &[u8],
-) -> Result<Query, TogetherFault> {
+fn of_two(rt: &impl Runtime, first: &[u8], second: &[u8]) -> Result<Query, TogetherFault> {
+    let alloc = rt.alloc();
     let queries = [
         read(alloc, first).expect(rt, "the first query"),
         read(alloc, second).expect(rt, "the second query"),
@@ -168,7 +164,6 @@ fn has_its_points(query: &Query) -> bool {
 fn two_queries_together_choose_what_either_does(rt: HostRuntime) {
     let query = of_two(
         &rt,
-        rt.alloc(),
         b"rule copy\nsource 0 1 2\nsink 1\nsink mem 65792 2 at 6",
         b"rule copy\nsource 0 4 6\nsink 15 0 1\nsink mem 65793 1 at 6\nsink reg 1 at 5",
     )
@@ -186,7 +181,7 @@ fn two_queries_together_choose_what_either_does(rt: HostRuntime) {
 
 #[test]
 fn two_rules_are_not_made_one(rt: HostRuntime) {
-    let is_told = match of_two(&rt, rt.alloc(), b"rule copy", b"rule index") {
+    let is_told = match of_two(&rt, b"rule copy", b"rule index") {
         Err(
             Fault::At(
                 OtherRule {

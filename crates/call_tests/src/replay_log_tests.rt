@@ -2,11 +2,10 @@
 
 mod texts;
 
-use crate::asserts::assert_same;
+use crate::asserts::{Runtime, assert_same};
 use replay_log::{
     CallRecord, HEADER_LENGTH, Log, RunEnd, can_write, end_length, read_log, share, write_log,
 };
-use std::alloc::Global;
 use std::process::Abort;
 use texts::{
     AFTER_CHANNEL, CALLS, FIVE, LATE_CALL, LATE_LIMIT, LOG_1, LOG_2, OTHER, THREE, TOO_LATE_CALL,
@@ -36,31 +35,25 @@ fn length_of(log: &Log) -> u64 {
 }
 
 /// In version 2 the log is written in so many bytes, and these are the same as the others or not; or that can't hold it.
-fn assert_written(
-    rt: &impl Abort,
-    alloc: Global,
-    bytes: &[u8],
-    log: &Log,
-    length: u64,
-    same: Option<bool>,
-) {
+fn assert_written(rt: &impl Runtime, bytes: &[u8], log: &Log, length: u64, same: Option<bool>) {
     assert!(rt; can_write(log) == same.is_some());
     if can_write(log) {
-        let text = write_log(alloc, log).expect(rt, "memory");
+        let text = write_log(rt.alloc(), log).expect(rt, "memory");
         assert_same(rt, text.len() as u64, length);
         assert!(rt; Some(text.as_slice() == bytes) == same);
     }
 }
 
 /// These bytes are read so.
-fn assert_read(rt: &impl Abort, alloc: Global, bytes: &[u8], want: Want) {
+fn assert_read(rt: &impl Runtime, bytes: &[u8], want: Want) {
+    let alloc = rt.alloc();
     assert!(rt; bytes.len() <= 1 << 26);
     match (read_log(alloc, bytes), want) {
         (Ok(log), Want::Log(calls, end, length, same)) => {
             assert_same(rt, log.records().len(), calls);
             assert_same(rt, log.end(), end);
             assert_same(rt, length_of(&log), length);
-            assert_written(rt, alloc, bytes, &log, length, same);
+            assert_written(rt, bytes, &log, length, same);
         }
         (Err(fault), Fault(text)) => {
             let said = format!(in alloc; "{fault}").expect(rt, "memory");
@@ -71,8 +64,8 @@ fn assert_read(rt: &impl Abort, alloc: Global, bytes: &[u8], want: Want) {
 }
 
 /// The first bytes of a log, others in place of as many, and its last ones.
-fn changed(rt: &impl Abort, alloc: Global, log: &[u8], at: usize, by: &[u8]) -> Vec<u8> {
-    let mut bytes = Vec::from_slice(alloc, &log[..at.min(log.len())]).expect(rt, "memory");
+fn changed(rt: &impl Runtime, log: &[u8], at: usize, by: &[u8]) -> Vec<u8> {
+    let mut bytes = Vec::from_slice(rt.alloc(), &log[..at.min(log.len())]).expect(rt, "memory");
     bytes.extend_from_slice(by).expect(rt, "memory");
     let after = at.saturating_add(by.len()).min(log.len());
     bytes.extend_from_slice(&log[after..]).expect(rt, "memory");
@@ -80,8 +73,8 @@ fn changed(rt: &impl Abort, alloc: Global, log: &[u8], at: usize, by: &[u8]) -> 
 }
 
 /// The header of a log, and other bytes after it.
-fn headed(rt: &impl Abort, alloc: Global, log: &[u8], parts: &[&[u8]]) -> Vec<u8> {
-    let mut bytes = Vec::from_slice(alloc, &log[..log.len().min(48)]).expect(rt, "memory");
+fn headed(rt: &impl Runtime, log: &[u8], parts: &[&[u8]]) -> Vec<u8> {
+    let mut bytes = Vec::from_slice(rt.alloc(), &log[..log.len().min(48)]).expect(rt, "memory");
     for part in parts {
         bytes.extend_from_slice(part).expect(rt, "memory");
     }
@@ -89,10 +82,10 @@ fn headed(rt: &impl Abort, alloc: Global, log: &[u8], parts: &[&[u8]]) -> Vec<u8
 }
 
 /// The log's prefixes of these lengths are read so.
-fn assert_prefixes(rt: &impl Abort, alloc: Global, log: &[u8], prefixes: &[(usize, Want)]) {
+fn assert_prefixes(rt: &impl Runtime, log: &[u8], prefixes: &[(usize, Want)]) {
     for (length, want) in prefixes {
         let length = *length;
-        assert_read(rt, alloc, &log[..length.min(log.len())], *want);
+        assert_read(rt, &log[..length.min(log.len())], *want);
     }
 }
 
@@ -100,10 +93,10 @@ fn assert_prefixes(rt: &impl Abort, alloc: Global, log: &[u8], prefixes: &[(usiz
 type Change = (usize, &'static [u8], Want);
 
 /// So changed the log is read so.
-fn assert_changes(rt: &impl Abort, alloc: Global, log: &[u8], changes: &[Change]) {
+fn assert_changes(rt: &impl Runtime, log: &[u8], changes: &[Change]) {
     for (at, by, want) in changes {
-        let bytes = changed(rt, alloc, log, *at, by);
-        assert_read(rt, alloc, &bytes, *want);
+        let bytes = changed(rt, log, *at, by);
+        assert_read(rt, &bytes, *want);
     }
 }
 
@@ -111,10 +104,10 @@ fn assert_changes(rt: &impl Abort, alloc: Global, log: &[u8], changes: &[Change]
 type Rest = (&'static [&'static [u8]], Want);
 
 /// With this after its header the log is read so.
-fn assert_rests(rt: &impl Abort, alloc: Global, log: &[u8], rests: &[Rest]) {
+fn assert_rests(rt: &impl Runtime, log: &[u8], rests: &[Rest]) {
     for (parts, want) in rests {
-        let bytes = headed(rt, alloc, log, parts);
-        assert_read(rt, alloc, &bytes, *want);
+        let bytes = headed(rt, log, parts);
+        assert_read(rt, &bytes, *want);
     }
 }
 
@@ -177,10 +170,9 @@ const RESTS_1: &[Rest] = &[
 
 #[test]
 fn logs_of_version_1_are_read(rt: HostRuntime) {
-    let alloc = rt.alloc();
-    assert_prefixes(&rt, alloc, &LOG_1, PREFIXES_1);
-    assert_changes(&rt, alloc, &LOG_1, CHANGES_1);
-    assert_rests(&rt, alloc, &LOG_1, RESTS_1);
+    assert_prefixes(&rt, &LOG_1, PREFIXES_1);
+    assert_changes(&rt, &LOG_1, CHANGES_1);
+    assert_rests(&rt, &LOG_1, RESTS_1);
 }
 
 const PREFIXES_2: &[(usize, Want)] = &[
@@ -233,38 +225,38 @@ const RESTS_2: &[Rest] = &[
 
 #[test]
 fn logs_of_version_2_are_read(rt: HostRuntime) {
-    let alloc = rt.alloc();
-    assert_prefixes(&rt, alloc, &LOG_2, PREFIXES_2);
-    assert_changes(&rt, alloc, &LOG_2, CHANGES_2);
-    assert_rests(&rt, alloc, &LOG_2, RESTS_2);
+    assert_prefixes(&rt, &LOG_2, PREFIXES_2);
+    assert_changes(&rt, &LOG_2, CHANGES_2);
+    assert_rests(&rt, &LOG_2, RESTS_2);
 }
 
 /// A log of version 1 is written as the same log of version 2.
 #[test]
 fn a_log_is_converted(rt: HostRuntime) {
     let log = read_log(rt.alloc(), &LOG_1).expect(&rt, "a log");
-    assert_written(&rt, rt.alloc(), &LOG_2, &log, 123, Some(true));
+    assert_written(&rt, &LOG_2, &log, 123, Some(true));
 }
 
 /// A log that is put together of its parts, and its text.
 #[test]
 fn a_log_has_its_parts(rt: HostRuntime) {
-    let alloc = rt.alloc();
-    let records = vec![in alloc; CallRecord::Other { at: 4, number: 42 }].expect(&rt, "memory");
+    let records = vec![in rt.alloc(); CallRecord::Other { at: 4, number: 42 }].expect(
+        &rt, "memory",
+    );
     let log = Log::from_parts(1, 0, [7; 32], records, RunEnd::Limit { at: 9 }, 70);
     assert_same(&rt, log.pages(), 1);
     assert_same(&rt, log.inputs(), 0);
     assert_same(&rt, log.size(), 70);
     assert!(rt; log.digest() == [7; 32]);
-    assert_written(&rt, alloc, &OTHER, &log, 70, Some(true));
+    assert_written(&rt, &OTHER, &log, 70, Some(true));
 }
 
 /// How many calls the longest log has.
 const MANY: u64 = 1_000_001;
 
 /// A log in version 2 with a call of the clock at each step.
-fn many(rt: &impl Abort, alloc: Global) -> Vec<u8> {
-    let mut bytes = headed(rt, alloc, &LOG_2, &[NO_BYTE]);
+fn many(rt: &impl Runtime) -> Vec<u8> {
+    let mut bytes = headed(rt, &LOG_2, &[NO_BYTE]);
     for step in 0..MANY {
         let step = step.to_le_bytes();
         bytes.push(3).expect(rt, "memory");
@@ -281,8 +273,7 @@ fn many(rt: &impl Abort, alloc: Global) -> Vec<u8> {
 /// A log of more than a million calls.
 #[test]
 fn a_log_may_have_many_calls(rt: HostRuntime) {
-    let alloc = rt.alloc();
     let end = RunEnd::Limit { at: MANY };
     let want = Want::Log(1_000_001, end, 17_000_078, Some(true));
-    assert_read(&rt, alloc, &many(&rt, alloc), want);
+    assert_read(&rt, &many(&rt), want);
 }

@@ -1,14 +1,13 @@
 //! What is told of a run without a query: the text of its calls, and the bytes that were moved on a channel.
 
-use crate::asserts::assert_same;
+use crate::asserts::{Runtime, assert_same};
 use log_model::CallRecord;
 use replay_log::{Log, read_log};
 use run_output::{calls_text, input_on, output_on};
-use std::alloc::Global;
-use std::process::Abort;
 
 /// A log in version 1, which begins here with the window's pages, of a program whose digest is zero.
-fn log_of(rt: &impl Abort, alloc: Global, parts: &[u8]) -> Log {
+fn log_of(rt: &impl Runtime, parts: &[u8]) -> Log {
+    let alloc = rt.alloc();
     let mut bytes = Vec::new(alloc);
     bytes.extend_from_slice(b"JETLOG1\n").expect(rt, "memory");
     bytes.extend_from_slice(&[0; 32]).expect(rt, "memory");
@@ -66,7 +65,7 @@ const TEXTS: [(&[u8], &str); 3] = [
 #[test]
 fn each_call_is_a_line(rt: HostRuntime) {
     for (parts, text) in TEXTS {
-        let log = log_of(&rt, rt.alloc(), parts);
+        let log = log_of(&rt, parts);
         let told = calls_text(rt.alloc(), &log).expect(&rt, "memory");
         assert_same(&rt, told.as_slice(), text.as_bytes());
     }
@@ -74,13 +73,13 @@ fn each_call_is_a_line(rt: HostRuntime) {
 
 /// What was read on a channel, and what was written on it.
 fn assert_moved(
-    rt: &impl Abort,
-    alloc: Global,
+    rt: &impl Runtime,
     calls: &[CallRecord],
     channel: u32,
     read: &[u8],
     written: &[u8],
 ) {
+    let alloc = rt.alloc();
     let input = input_on(alloc, calls, channel).expect(rt, "memory");
     assert_same(rt, input.as_slice(), read);
     let output = output_on(alloc, calls, channel).expect(rt, "memory");
@@ -89,17 +88,9 @@ fn assert_moved(
 
 #[test]
 fn what_was_read_is_apart_from_what_was_written(rt: HostRuntime) {
-    let alloc = rt.alloc();
-    let log = log_of(&rt, alloc, ALL_CALLS);
-    assert_moved(
-        &rt,
-        alloc,
-        log.records(),
-        0,
-        b"ABCDEFGHIJKLMNOPQRSTUVWXYZ",
-        b"",
-    );
-    assert_moved(&rt, alloc, log.records(), 1, b"\"\\", b"");
-    assert_moved(&rt, alloc, log.records(), 2, b"", b"");
-    assert_moved(&rt, alloc, log.records(), 15, b"", b"ABC\n");
+    let log = log_of(&rt, ALL_CALLS);
+    assert_moved(&rt, log.records(), 0, b"ABCDEFGHIJKLMNOPQRSTUVWXYZ", b"");
+    assert_moved(&rt, log.records(), 1, b"\"\\", b"");
+    assert_moved(&rt, log.records(), 2, b"", b"");
+    assert_moved(&rt, log.records(), 15, b"", b"ABC\n");
 }

@@ -2,17 +2,17 @@
 
 ghost use Rattle.std.specs.Prelude.{◌≡◌, false};
 
-use crate::asserts::assert_same;
+use crate::asserts::{Runtime, assert_same};
 use elf_image::load;
 use guest_assembler::{code, program};
 use rv_machine::{Call, CallKind, Instr, Machine, MachineState, Stepped};
-use std::alloc::Global;
 use std::process::Abort;
 
 /// A machine at the first of these instructions, at 0x10000, with a window of one page.
-fn machine_of(rt: &impl Abort, alloc: Global, code: &[Instr]) -> Machine
+fn machine_of(rt: &impl Runtime, code: &[Instr]) -> Machine
     ensures { result.waits ≡ false }
 {
+    let alloc = rt.alloc();
     let file = program(alloc, code).expect(rt, "memory");
     let image = load(alloc, file.as_slice()).expect(rt, "an image");
     Machine::new(alloc, &image, 1).expect(rt, "a window of one page")
@@ -31,8 +31,8 @@ fn run(rt: &impl Abort, machine: &mut Machine, steps: u32)
 }
 
 /// What comes after so many plain steps.
-fn step_after(rt: &impl Abort, alloc: Global, code: &[Instr], plain: u32) -> Stepped {
-    let mut machine = machine_of(rt, alloc, code);
+fn step_after(rt: &impl Runtime, code: &[Instr], plain: u32) -> Stepped {
+    let mut machine = machine_of(rt, code);
     run(rt, &mut machine, plain);
     machine.step()
 }
@@ -105,7 +105,7 @@ fn programs_leave_their_results(rt: HostRuntime) {
         ),
     ];
     for (code, plain, args) in cases {
-        let stepped = step_after(&rt, rt.alloc(), code, plain);
+        let stepped = step_after(&rt, code, plain);
         assert!(rt; called(stepped) == Some(other_call(args)));
     }
 }
@@ -126,7 +126,7 @@ fn programs_trap(rt: HostRuntime) {
         let Stepped::Trapped {
             kind: seen_kind,
             pc: seen_pc,
-        } = step_after(&rt, rt.alloc(), code, plain)
+        } = step_after(&rt, code, plain)
         else {
             rt.abort()
         };
@@ -136,11 +136,11 @@ fn programs_trap(rt: HostRuntime) {
 }
 
 /// A machine made of another one's state, which was taken apart and put together.
-fn again(rt: &impl Abort, alloc: Global, machine: &Machine) -> Machine
+fn again(rt: &impl Runtime, machine: &Machine) -> Machine
     requires { machine.now.waits ≡ false }
     ensures { result.waits ≡ false }
 {
-    let saved = machine.export_state(alloc).expect(rt, "memory");
+    let saved = machine.export_state(rt.alloc()).expect(rt, "memory");
     let (window, rest) = saved.apart();
     Machine::import_state(MachineState::whole(window, rest))
 }
@@ -158,9 +158,9 @@ fn a_saved_machine_goes_on_alike(rt: HostRuntime) {
         ecall()
     ];
     for steps in 0..6 {
-        let mut machine = machine_of(&rt, rt.alloc(), &code);
+        let mut machine = machine_of(&rt, &code);
         run(&rt, &mut machine, steps);
-        let mut machine = again(&rt, rt.alloc(), &machine);
+        let mut machine = again(&rt, &machine);
         if steps % 2 == 1 {
             machine.keep_decoded(rt.alloc()).expect(&rt, "memory");
         }
@@ -198,7 +198,7 @@ fn products_and_quotients(rt: HostRuntime) {
     ];
     for ([first, second, instr], value) in cases {
         let code = [first, second, instr, Instr::Ecall];
-        let stepped = step_after(&rt, rt.alloc(), &code, 3);
+        let stepped = step_after(&rt, &code, 3);
         assert!(rt; called(stepped) == Some(other_call([value, 0, 0])));
     }
 }

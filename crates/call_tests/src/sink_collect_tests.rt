@@ -3,7 +3,7 @@
 ghost use Rattle.std.specs.Prelude.{◌≡◌};
 ghost use Rattle.report_model.specs.Text.{report_text};
 
-use crate::asserts::assert_same;
+use crate::asserts::{Runtime, assert_same};
 use flow_model::{Loc, SinkPoint, SourceByte};
 use memory_outside::MemorySink;
 use outer_io::{Buffer, InPieces, Pieces, write_in_pieces};
@@ -13,13 +13,12 @@ use sink_collect::{
     turn_round,
 };
 use source_ranges::SourceSet;
-use std::alloc::Global;
-use std::process::Abort;
 
 /// The set of an output byte or a point, with one source byte on each of the channels 0 and 15, or with none.
-fn set(rt: &impl Abort, alloc: Global, sink: SinkPoint, source: Option<u32>) -> SinkSet
+fn set(rt: &impl Runtime, sink: SinkPoint, source: Option<u32>) -> SinkSet
     ensures { result.sink ≡ sink }
 {
+    let alloc = rt.alloc();
     let last = source!(15, 2);
     let sources = match source {
         Some(offset) => SourceSet::of(alloc, &[SourceByte { channel: 0, offset }, last]),
@@ -41,45 +40,46 @@ const LANE: SinkPoint = inside!(lane!(10, 3), 6);
 const PLACE: SinkPoint = inside!(Loc::Mem { place: 65792 }, 6);
 
 /// The report of five sets that come in another order.
-fn report(rt: &impl Abort, alloc: Global) -> Report {
+fn report(rt: &impl Runtime) -> Report {
+    let alloc = rt.alloc();
     let sets = vec![in alloc;
-        set(rt, alloc, PLACE, Some(7)),
-        set(rt, alloc, TENTH, Some(4294967295)),
-        set(rt, alloc, LANE, None),
-        set(rt, alloc, NINTH, None),
-        set(rt, alloc, EARLY, Some(7)),
+        set(rt, PLACE, Some(7)),
+        set(rt, TENTH, Some(4294967295)),
+        set(rt, LANE, None),
+        set(rt, NINTH, None),
+        set(rt, EARLY, Some(7)),
     ];
     gather(alloc, sets.expect(rt, "memory")).expect(rt, "memory")
 }
 
 /// The report has this text.
-fn assert_text(rt: &impl Abort, alloc: Global, report: &Report, lines: &str) {
-    let written = text(alloc, report).expect(rt, "memory");
+fn assert_text(rt: &impl Runtime, report: &Report, lines: &str) {
+    let written = text(rt.alloc(), report).expect(rt, "memory");
     assert_same(rt, written.as_slice(), lines.as_bytes());
 }
 
 /// The output bytes come first, by channel and then offset.
 #[test]
 fn rows_come_in_their_order(rt: HostRuntime) {
-    let report = report(&rt, rt.alloc());
+    let report = report(&rt);
     assert_same(&rt, report.lines(), 5);
     assert_same(&rt, report.pairs(), 6);
     let lines =
         "1:70000 0:7 15:2\n2:9\n2:10 0:4294967295 15:2\nr:10.3@6\nm:65792@6 0:7 15:2\nend 5\n";
-    assert_text(&rt, rt.alloc(), &report, lines);
+    assert_text(&rt, &report, lines);
 }
 
 /// The bytes 7 and 8 of channel 0, and byte 2 of channel 15: two ranges, of which the rows cut the first.
-fn chosen(rt: &impl Abort, alloc: Global) -> SourceSet {
+fn chosen(rt: &impl Runtime) -> SourceSet {
     let bytes = [source!(0, 7), source!(0, 8), source!(15, 2)];
-    SourceSet::of(alloc, &bytes).expect(rt, "memory")
+    SourceSet::of(rt.alloc(), &bytes).expect(rt, "memory")
 }
 
 #[test]
 fn rows_are_turned_round(rt: HostRuntime) {
     let alloc = rt.alloc();
-    let report = report(&rt, alloc);
-    let influence = turn_round(alloc, &report, &chosen(&rt, alloc)).expect(&rt, "memory");
+    let report = report(&rt);
+    let influence = turn_round(alloc, &report, &chosen(&rt)).expect(&rt, "memory");
     assert_same(&rt, influence.lines(), 3);
     let lines = influence_text(alloc, &influence).expect(&rt, "memory");
     assert_same(
@@ -98,22 +98,21 @@ fn rows_are_turned_round(rt: HostRuntime) {
 }
 
 /// What a query chooses of the report has this text.
-fn assert_only(rt: &impl Abort, alloc: Global, report: &Report, query: &Query, lines: &str) {
-    let chosen = report.only(alloc, query).expect(rt, "memory");
-    assert_text(rt, alloc, &chosen, lines);
+fn assert_only(rt: &impl Runtime, report: &Report, query: &Query, lines: &str) {
+    let chosen = report.only(rt.alloc(), query).expect(rt, "memory");
+    assert_text(rt, &chosen, lines);
 }
 
 #[test]
 fn a_query_has_its_own_rows(rt: HostRuntime) {
-    let alloc = rt.alloc();
-    let report = report(&rt, alloc);
+    let report = report(&rt);
     let query = parse(
-        alloc,
+        rt.alloc(),
         b"rule copy\nsource 0\nsink 1\nsink 2 0 10\nsink mem 65792 2 at 6\n",
     )
     .expect(&rt, "a query");
     let lines = "1:70000 0:7\n2:9\nm:65792@6 0:7\nend 3\n";
-    assert_only(&rt, alloc, &report, &query, lines);
+    assert_only(&rt, &report, &query, lines);
 }
 
 /// A report, of which the text is put in pieces.
@@ -134,7 +133,8 @@ impl InPieces for Lines {
 const ROOMS: &[usize] = &[0, 1, 3, 16, 31, 4096];
 
 /// Through a buffer of this room, to a sink that takes seven bytes a call and fails at this one, the text is written up to there.
-fn assert_pieces(rt: &impl Abort, alloc: Global, lines: &Lines, room: usize, failing: u64) {
+fn assert_pieces(rt: &impl Runtime, lines: &Lines, room: usize, failing: u64) {
+    let alloc = rt.alloc();
     let whole = text(alloc, &lines.report).expect(rt, "memory");
     let failing = [failing].as_slice().to_vec(alloc).expect(rt, "memory");
     let mut sink = MemorySink::new(alloc, failing, 7, 4096).expect(rt, "memory");
@@ -150,13 +150,12 @@ fn assert_pieces(rt: &impl Abort, alloc: Global, lines: &Lines, room: usize, fai
 
 #[test]
 fn a_text_is_written_in_pieces(rt: HostRuntime) {
-    let alloc = rt.alloc();
     let lines = Lines {
-        report: report(&rt, alloc),
+        report: report(&rt),
     };
     for room in ROOMS {
         for failing in 0..40 {
-            assert_pieces(&rt, alloc, &lines, *room, failing);
+            assert_pieces(&rt, &lines, *room, failing);
         }
     }
 }

@@ -1,16 +1,14 @@
 //! Runs of source bytes.
 
-use crate::asserts::assert_same;
+use crate::asserts::{Runtime, assert_same};
 use source_runs::{SourceRun, normalise};
-use std::alloc::Global;
-use std::process::Abort;
 
 /// Channels and offsets of bytes, in no order: 4 to 6 and 9 of channel 0, some of them twice, and 7 of channel 1.
 const BYTES: &[(u8, u32)] = &[(0, 6), (1, 7), (0, 4), (0, 9), (0, 5), (0, 4), (1, 7)];
 
 /// The runs of these bytes, each of one byte.
-fn runs(rt: &impl Abort, alloc: Global, bytes: &[(u8, u32)]) -> Vec<SourceRun> {
-    let mut runs = Vec::new(alloc);
+fn runs(rt: &impl Runtime, bytes: &[(u8, u32)]) -> Vec<SourceRun> {
+    let mut runs = Vec::new(rt.alloc());
     for (channel, offset) in bytes {
         let byte = source!(*channel, *offset);
         runs.push(SourceRun::of_byte(byte)).expect(rt, "memory");
@@ -20,11 +18,10 @@ fn runs(rt: &impl Abort, alloc: Global, bytes: &[(u8, u32)]) -> Vec<SourceRun> {
 
 #[test]
 fn runs_in_any_order_are_a_set(rt: HostRuntime) {
-    let alloc = rt.alloc();
-    let mut spare = Vec::new(alloc);
-    let mut all = runs(&rt, alloc, BYTES);
+    let mut spare = Vec::new(rt.alloc());
+    let mut all = runs(&rt, BYTES);
     normalise(&mut all, &mut spare).expect(&rt, "memory");
-    let mut sorted = runs(&rt, alloc, &[(0, 4), (0, 5), (0, 6), (0, 9), (1, 7)]);
+    let mut sorted = runs(&rt, &[(0, 4), (0, 5), (0, 6), (0, 9), (1, 7)]);
     normalise(&mut sorted, &mut spare).expect(&rt, "memory");
     assert_same(&rt, all.len(), 3);
     assert!(rt; all.as_slice() == sorted.as_slice());

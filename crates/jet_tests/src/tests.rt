@@ -346,31 +346,19 @@ struct Ending<'a> {
 }
 
 impl Ending<'_> {
-    /// This was written.
-    fn report(out: &str) -> Ending<'_> {
-        Ending {
-            status: 0,
-            out: out.as_bytes(),
-            err: "",
-        }
-    }
-
     /// This was written where the status is 0, and else the command was refused with this line.
     fn of(status: u8, text: &str) -> Ending<'_> {
-        if status == 0 {
-            Ending::report(text)
-        } else {
-            Ending::refusal(status, text)
+        let (out, err) = if status == 0 { (text, "") } else { ("", text) };
+        Ending {
+            status,
+            out: out.as_bytes(),
+            err,
         }
     }
 
-    /// The command was refused with this line.
-    fn refusal(status: u8, err: &str) -> Ending<'_> {
-        Ending {
-            status,
-            out: &[],
-            err,
-        }
+    /// This was written.
+    fn report(out: &str) -> Ending<'_> {
+        Ending::of(0, out)
     }
 }
 

@@ -233,26 +233,10 @@ const THIRD: Loc = Loc::Mem { place: 65794 };
 
 const FOURTH: Loc = Loc::Mem { place: 65795 };
 
-/// Which bytes of the input they are.
-const FIRST_BYTE: Message = Message::Byte(SourceByte {
-    channel: 0,
-    offset: 0,
-});
-
-const SECOND_BYTE: Message = Message::Byte(SourceByte {
-    channel: 0,
-    offset: 1,
-});
-
-const THIRD_BYTE: Message = Message::Byte(SourceByte {
-    channel: 0,
-    offset: 2,
-});
-
-const FOURTH_BYTE: Message = Message::Byte(SourceByte {
-    channel: 0,
-    offset: 3,
-});
+/// The source byte of an offset, which one of them is.
+macro_rules! byte {
+    ($offset:expr) => { Message::Byte(SourceByte { channel: 0, offset: $offset }) };
+}
 
 /// All that was to be sent was sent.
 const END: Message = Message::End { whole: true };
@@ -279,13 +263,13 @@ const CASES: &[Case] = &[
         previous_answers: None,
         asks: None,
         answers: Some(&[
-            FIRST_BYTE,
+            byte!(0),
             Message::Close(FIRST),
-            SECOND_BYTE,
+            byte!(1),
             Message::Close(SECOND),
-            THIRD_BYTE,
+            byte!(2),
             Message::Close(THIRD),
-            FOURTH_BYTE,
+            byte!(3),
             Message::Close(FOURTH),
             END,
         ]),
@@ -319,7 +303,7 @@ const CASES: &[Case] = &[
         number: 1,
         length: 6,
         next_asks: None,
-        previous_answers: Some(&[FIRST_BYTE, Message::Close(FIRST), BROKEN]),
+        previous_answers: Some(&[byte!(0), Message::Close(FIRST), BROKEN]),
         asks: Some(ASKS),
         answers: None,
         asked: PLACES,

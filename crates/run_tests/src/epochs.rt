@@ -1,8 +1,6 @@
 //! A run whose epochs begin at checkpoints, and an epoch that is analysed by itself.
 
-ghost use Rattle.std.specs.Prelude.{◌≡◌, ◌≤◌, ◌<◌, length};
-ghost use Rattle.flow_model.specs.Ranges.{IsLocation};
-ghost use Rattle.epoch_summary.specs.Summaries.{summary_of};
+ghost use Rattle.std.specs.Prelude.{◌≤◌};
 
 use crate::guests::{
     CALL_AND_EXIT, COPY_FOUR, COPY_IN_TWO, CUT_OFF, Runtime, TRAP, copy_many, job_of,

@@ -1,6 +1,5 @@
 //! Queries over runs that are cut into epochs: their reports, and what crosses the cuts.
 
-ghost use Rattle.std.specs.Prelude.{◌≤◌};
 ghost use Rattle.log_model.specs.Logs.{steps};
 ghost use Rattle.epoch_model.specs.Cutting.{IsCutting};
 

@@ -85,6 +85,6 @@ fn a_workload_has_its_numbers(rt: HostRuntime) {
 #[test]
 fn a_workload_is_refused(rt: HostRuntime) {
     for &(line, status, said) in REFUSED {
-        assert_bench(&rt, line, Ending::refusal(status, said));
+        assert_bench(&rt, line, Ending::of(status, said));
     }
 }

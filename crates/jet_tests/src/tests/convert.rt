@@ -1,7 +1,5 @@
 //! Logs that are converted, and what they tell afterwards.
 
-ghost use Rattle.std.specs.Prelude.{◌<◌};
-
 use super::record::{FOUR, Recording, assert_file};
 use super::runs::{CONVERT, COPIES};
 use super::{
@@ -76,9 +74,9 @@ fn assert_call_fails(
     call: u64,
 ) {
     let (ending, new) = if call < 29 {
-        (Ending::refusal(7, "jet: read fault\n"), None)
+        (Ending::of(7, "jet: read fault\n"), None)
     } else if call < 44 {
-        (Ending::refusal(8, "jet: write fault\n"), None)
+        (Ending::of(8, "jet: write fault\n"), None)
     } else {
         (Ending::report(""), Some(wide))
     };

@@ -57,9 +57,9 @@ fn a_failing_store_leaves_no_core_file(rt: HostRuntime) {
     let program = program(&rt, COPY_CODE);
     for call in 0..9 {
         let ending = if call < 6 {
-            Ending::refusal(7, "jet: read fault\n")
+            Ending::of(7, "jet: read fault\n")
         } else {
-            Ending::refusal(8, "jet: write fault\n")
+            Ending::of(8, "jet: write fault\n")
         };
         let mut store = store(&rt, &program, call);
         assert_ends(&rt, CORE, &mut store, ending);

@@ -76,6 +76,6 @@ fn input_bytes_are_followed(rt: HostRuntime) {
 /// A faulty query is refused as a report's is.
 #[test]
 fn an_influence_of_a_faulty_query_is_refused(rt: HostRuntime) {
-    let ending = Ending::refusal(6, "jet: query line 1 Channel\n");
+    let ending = Ending::of(6, "jet: query line 1 Channel\n");
     assert_guest(&rt, INFLUENCE, &COPY_FOUR, "sink 16", ending);
 }

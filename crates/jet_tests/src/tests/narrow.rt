@@ -95,6 +95,6 @@ fn a_later_call_is_checked(rt: HostRuntime) {
     let mut entries = CALLED_TWICE;
     entries[3] = Entry::Write(21, 1, 2, b"CE");
     let log = log_of(&rt, &program, 1, 1, &entries);
-    let ending = Ending::refusal(5, "jet: diverged at 21 byte 1 kept 69 seen 68\n");
+    let ending = Ending::of(5, "jet: diverged at 21 byte 1 kept 69 seen 68\n");
     assert_command(&rt, QUERY, &program, &log, EARLY.as_bytes(), ending);
 }

@@ -57,7 +57,7 @@ fn store(rt: &impl Runtime, written: &'static [u8], failing: u64) -> MemoryStore
 fn assert_read_fails(rt: &impl Runtime, line: Line, calls: u64, text: &str, call: u64) {
     let mut store = store(rt, b"ABCD", call);
     let ending = if call < calls {
-        Ending::refusal(7, "jet: read fault\n")
+        Ending::of(7, "jet: read fault\n")
     } else {
         Ending::report(text)
     };
@@ -76,19 +76,15 @@ fn each_failing_read_is_a_read_fault(rt: HostRuntime) {
 
 /// How a command with this text ends whose output takes so many bytes at a time, and fails at this put.
 fn ending_at(text: &str, put: u64, piece: usize) -> Ending<'_> {
-    let text = text.as_bytes();
+    let bytes = text.as_bytes();
     let length = (put as usize).saturating_mul(piece);
-    if length < text.len() {
-        return Ending {
-            status: 8,
-            out: &text[..length],
-            err: "jet: write fault\n",
-        };
+    if length >= bytes.len() {
+        return Ending::report(text);
     }
     Ending {
-        status: 0,
-        out: text,
-        err: "",
+        status: 8,
+        out: &bytes[..length],
+        err: "jet: write fault\n",
     }
 }
 
@@ -114,15 +110,7 @@ fn each_failing_put_is_a_write_fault(rt: HostRuntime) {
 /// A diverging log is refused where standard error fails at this put, and so much of the line is said.
 fn assert_said(rt: &impl Runtime, put: u64, said: &str) {
     let mut store = store(rt, b"ABXD", NEVER);
-    assert_puts(
-        rt,
-        QUERY,
-        &mut store,
-        NEVER,
-        256,
-        put,
-        Ending::refusal(5, said),
-    );
+    assert_puts(rt, QUERY, &mut store, NEVER, 256, put, Ending::of(5, said));
 }
 
 /// A standard error that fails, at once or after some bytes, changes no status.
@@ -190,6 +178,6 @@ fn assert_without_files(rt: &impl Runtime, line: Line, ending: Ending<'_>) {
 #[test]
 fn words_and_names_are_looked_at(rt: HostRuntime) {
     for &(line, status, said) in WORDS {
-        assert_without_files(&rt, line, Ending::refusal(status, said));
+        assert_without_files(&rt, line, Ending::of(status, said));
     }
 }

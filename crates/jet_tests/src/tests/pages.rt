@@ -77,11 +77,11 @@ fn a_page_is_its_data_between_two_texts(rt: HostRuntime) {
 #[test]
 fn a_failing_store_leaves_no_page(rt: HostRuntime) {
     let program = program(&rt, COPY_CODE);
-    let unread = Ending::refusal(7, "jet: read fault\n");
+    let unread = Ending::of(7, "jet: read fault\n");
     for call in 0..9 {
         assert_page(&rt, PAGE, &program, call, unread, None);
     }
-    let unwritten = Ending::refusal(8, "jet: write fault\n");
+    let unwritten = Ending::of(8, "jet: write fault\n");
     for call in 9..12 {
         assert_page(&rt, PAGE, &program, call, unwritten, None);
     }

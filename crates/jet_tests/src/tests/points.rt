@@ -108,6 +108,6 @@ const FAULTY: &[(&str, &str)] = &[
 #[test]
 fn faulty_points_are_told(rt: HostRuntime) {
     for &(query, line) in FAULTY {
-        assert_guest(&rt, QUERY, &COPY_FOUR, query, Ending::refusal(6, line));
+        assert_guest(&rt, QUERY, &COPY_FOUR, query, Ending::of(6, line));
     }
 }

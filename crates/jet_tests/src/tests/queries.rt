@@ -166,16 +166,16 @@ fn several_queries_have_their_reports(rt: HostRuntime) {
 #[test]
 fn several_queries_are_refused(rt: HostRuntime) {
     for &(line, queries, status, said) in REFUSED {
-        let ending = Ending::refusal(status, said);
+        let ending = Ending::of(status, said);
         assert_guest_queries(&rt, &COPY_FOUR, line, queries, ending);
     }
 }
 
 /// Rules that differ are told even where the log is of another program, and a log that is none before them.
 fn assert_rules_first(rt: &impl Runtime, program: &[u8], log: &[u8]) {
-    let rules = Ending::refusal(11, "jet: rules copy 2 compute\n");
+    let rules = Ending::of(11, "jet: rules copy 2 compute\n");
     assert_queries(rt, TWO, program, log, &[COPY, COMPUTE], rules);
-    let short = Ending::refusal(4, "jet: log 3 Short at 98\n");
+    let short = Ending::of(4, "jet: log 3 Short at 98\n");
     let begun = &log[..log.len().min(106)];
     assert_queries(rt, TWO, program, begun, &[COPY, COMPUTE], short);
 }

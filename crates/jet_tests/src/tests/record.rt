@@ -346,7 +346,7 @@ fn assert_unwritten(rt: &impl Runtime, program: &[u8], line: Line, ending: Endin
 fn a_refused_recording_writes_no_file(rt: HostRuntime) {
     let program = program(&rt, COPY_CODE);
     for &(line, status, said) in REFUSED {
-        assert_unwritten(&rt, &program, line, Ending::refusal(status, said));
+        assert_unwritten(&rt, &program, line, Ending::of(status, said));
     }
 }
 
@@ -354,7 +354,7 @@ fn a_refused_recording_writes_no_file(rt: HostRuntime) {
 #[test]
 fn a_log_that_is_too_long_is_not_written(rt: HostRuntime) {
     let program = program(&rt, WRITE_MUCH);
-    let ending = Ending::refusal(9, "jet: limit log 83558586\n");
+    let ending = Ending::of(9, "jet: limit log 83558586\n");
     assert_unwritten(&rt, &program, WIDEST, ending);
 }
 
@@ -374,9 +374,9 @@ fn assert_call_fails(
     call: u64,
 ) {
     let (ending, written) = if call < 19 {
-        (Ending::refusal(7, "jet: read fault\n"), None)
+        (Ending::of(7, "jet: read fault\n"), None)
     } else if call < 34 {
-        (Ending::refusal(8, "jet: write fault\n"), None)
+        (Ending::of(8, "jet: write fault\n"), None)
     } else {
         (Ending::report(""), Some(log))
     };

@@ -341,7 +341,7 @@ fn runs_have_numbers_and_outputs(rt: HostRuntime) {
 fn a_run_that_diverges_is_refused(rt: HostRuntime) {
     for &(code, entries, said) in DIVERGING {
         for line in READERS {
-            assert_run(&rt, line, code, entries, Ending::refusal(5, said));
+            assert_run(&rt, line, code, entries, Ending::of(5, said));
         }
     }
 }
@@ -356,7 +356,7 @@ fn assert_changed(rt: &impl Runtime, program: &[u8], log: &[u8], patch: Patch, e
 fn a_changed_log_is_refused(rt: HostRuntime) {
     let (program, log) = copied(&rt);
     for &(patch, status, said) in CHANGED_LOGS {
-        assert_changed(&rt, &program, &log, patch, Ending::refusal(status, said));
+        assert_changed(&rt, &program, &log, patch, Ending::of(status, said));
     }
 }
 
@@ -364,9 +364,9 @@ fn a_changed_log_is_refused(rt: HostRuntime) {
 #[test]
 fn a_log_that_does_not_fit_is_refused(rt: HostRuntime) {
     let (program, log) = copied(&rt);
-    let short = Ending::refusal(4, "jet: log 3 Short at 98\n");
+    let short = Ending::of(4, "jet: log 3 Short at 98\n");
     assert_refused(&rt, &program, &log[..log.len().min(106)], short);
     let wide = patched(&rt, &program, (72, b"\0\x20\0\0"));
     let log_wide = log_of(&rt, &wide, 1, 1, COPIES);
-    assert_refused(&rt, &wide, &log_wide, Ending::refusal(3, "jet: window 1\n"));
+    assert_refused(&rt, &wide, &log_wide, Ending::of(3, "jet: window 1\n"));
 }
