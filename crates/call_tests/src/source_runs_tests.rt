@@ -1,7 +1,7 @@
 //! Runs of source bytes.
 
 use crate::asserts::{Runtime, assert_same};
-use source_runs::{SourceRun, normalise};
+use source_runs::{SourceRun, normalise, push_bytes};
 
 /// Channels and offsets of bytes, in no order: 4 to 6 and 9 of channel 0, some of them twice, and 7 of channel 1.
 const BYTES: &[(u8, u32)] = &[(0, 6), (1, 7), (0, 4), (0, 9), (0, 5), (0, 4), (1, 7)];
@@ -50,4 +50,12 @@ fn normalised_runs_are_those_of_their_bytes(rt: HostRuntime) {
         runs.as_slice(),
         [UP_TO_4, LATER, OTHER_CHANNEL].as_slice(),
     );
+}
+
+#[test]
+fn runs_have_their_bytes(rt: HostRuntime) {
+    let mut bytes = Vec::new(rt.alloc());
+    push_bytes(&mut bytes, [FROM_3, LATER].as_slice()).expect(&rt, "memory");
+    let want = [source!(0, 3), source!(0, 4), source!(0, 6)];
+    assert!(rt; bytes.as_slice() == want.as_slice());
 }

@@ -2,7 +2,7 @@
 
 use crate::guests::{
     ASK_BY_INPUT, CIPHER, COMPARE_AND_LOOK_UP, RUN_WHAT_IS_READ, Recorded, Runtime,
-    TRAP_IN_WHAT_IS_READ, job_of, recorded,
+    TRAP_IN_WHAT_IS_READ, job_of, unchecked,
 };
 use crate::runs::query_of;
 use decision_find::{check_and_decide, decisions};
@@ -42,7 +42,7 @@ fn a_comparison_and_a_look_up_decide(rt: HostRuntime) {
 /// The replay that checks a log counts the decisions too, also that of the instruction that traps.
 #[test]
 fn decisions_are_counted_while_the_log_is_checked(rt: HostRuntime) {
-    let Recorded { program, log } = recorded(&rt, &COMPARE_AND_LOOK_UP);
+    let Recorded { program, log } = unchecked(&rt, &COMPARE_AND_LOOK_UP);
     let query = query_of(&rt, COMPUTE);
     let (_job, text) = check_and_decide(rt.alloc(), program, log, &query).expect(
         &rt,

@@ -61,7 +61,7 @@ pub struct Guest {
 }
 
 /// The program and the log of a guest, not yet checked.
-pub fn recorded(rt: &impl Runtime, guest: &Guest) -> Recorded {
+pub fn unchecked(rt: &impl Runtime, guest: &Guest) -> Recorded {
     record(rt, guest.code, guest.log)
 }
 

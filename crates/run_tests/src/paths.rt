@@ -4,7 +4,7 @@ ghost use Rattle.flow_model.specs.Ranges.{IsLocation};
 ghost use Rattle.path_find.specs.Sinks.{HasLocation};
 
 use crate::guests::{
-    COPY_FOUR, COPY_IN_TWO, MASK_AND_SHIFT, Recorded, Runtime, copy_many, job_of, recorded,
+    COPY_FOUR, COPY_IN_TWO, MASK_AND_SHIFT, Recorded, Runtime, copy_many, job_of, unchecked,
 };
 use flow_model::{InnerSink, Loc, Rule, SinkByte, SinkPoint, SourceByte};
 use path_find::{Pair, answer, check_and_answer};
@@ -62,7 +62,7 @@ fn a_path_is_a_read_and_the_write_where_nothing_moves(rt: HostRuntime) {
 /// The replay that checks a log finds the path of a pair that is known before.
 #[test]
 fn a_path_is_found_while_the_log_is_checked(rt: HostRuntime) {
-    let Recorded { program, log } = recorded(&rt, &COPY_FOUR);
+    let Recorded { program, log } = unchecked(&rt, &COPY_FOUR);
     let pair = Pair {
         sink: output(2),
         source: SourceByte {

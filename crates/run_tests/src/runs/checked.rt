@@ -4,7 +4,7 @@ ghost use Rattle.std.specs.Prelude.{IfOk};
 ghost use Rattle.epoch_engine.specs.Collecting.{AreAtBeginnings, IsCollectedOf};
 
 use super::{COPY, query_of, sequential_report};
-use crate::guests::{COPY_FOUR, Recorded, Runtime, job_of, recorded};
+use crate::guests::{COPY_FOUR, Recorded, Runtime, job_of, unchecked};
 use checkpoints::Checkpoints;
 use epoch_cut::laws::cut_times_are_cutting;
 use epoch_cut::{Cuts, cuts};
@@ -23,7 +23,7 @@ use sink_collect::{Report, text};
 fn checked_report<G: Gate>(rt: &impl Runtime, gate: &G, wanted: &Query, length: u64) -> Report {
     let alloc = rt.alloc();
     assert!(rt; 1 <= length);
-    let Recorded { program, log } = recorded(rt, &COPY_FOUR);
+    let Recorded { program, log } = unchecked(rt, &COPY_FOUR);
     cut_times_are_cutting();
     let cuts = cuts(steps_of(&log), length).expect(rt, "few epochs");
     let line = ClosureEngine {
