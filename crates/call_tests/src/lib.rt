@@ -10,12 +10,16 @@ macro_rules! source {
 
 /// Source bytes in a run, by its channel, its first and its last offset.
 macro_rules! run {
-    ($channel:expr, $first:expr, $last:expr) => { source_runs::SourceRun { channel: $channel, first: $first, last: $last } };
+    ($channel:expr, $first:expr, $last:expr) => {
+        source_runs::SourceRun { channel: $channel, first: $first, last: $last }
+    };
 }
 
 /// An output byte, by its channel and its offset.
 macro_rules! output {
-    ($channel:expr, $offset:expr) => { flow_model::SinkPoint::Out(flow_model::SinkByte { channel: $channel, offset: $offset }) };
+    ($channel:expr, $offset:expr) => {
+        flow_model::SinkPoint::Out(flow_model::SinkByte { channel: $channel, offset: $offset })
+    };
 }
 
 /// A location inside a run, after so many steps.

@@ -134,7 +134,7 @@ enum Entry {
     /// The step, the channel, the length asked for, and the bytes. The buffer is that of the guests.
     Read(u32, u32, u32, &'static [u8]),
     Write(u32, u32, u32, &'static [u8]),
-    /// The tag of a read (1) or a write (2), the step, the channel, the place of the buffer, the length asked for, and the bytes.
+    /// The tag of a read (1) or a write (2), the step, the channel, the buffer's place, the length asked for, and the bytes.
     Moved(u8, u32, [u32; 3], &'static [u8]),
     /// The tag, the step, the channel and the length of a read or a write that failed with -9.
     Refused(u8, u32, u32, u32),

@@ -235,7 +235,8 @@ pub const CIPHER: Guest = Guest {
 pub const COMPARE_AND_LOOK_UP: Guest = Guest {
     code: reading!(
         2;
-        li(x28, 2), lbu(x5, 0(x11)), beq(x5, x0, 8), addi(x11, x11, 1), addi(x28, x28, -1), bne(x28, x0, -16), lbu(x7, 4(x5))
+        li(x28, 2), lbu(x5, 0(x11)), beq(x5, x0, 8), addi(x11, x11, 1), addi(x28, x28, -1), bne(x28, x0, -16),
+        lbu(x7, 4(x5))
     ),
     log: b"\x01\0\0\0\x01\0\0\0\
         \x01\x05\0\0\0\0\0\0\0\0\x01\x01\0\x02\0\0\0\x02\0\0\0KE\

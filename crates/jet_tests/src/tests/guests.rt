@@ -14,8 +14,8 @@ pub struct Guest {
     pub entries: &'static [Entry],
 }
 
-/// Code that reads to its buffer, whose address is then in x11, and writes x12 bytes from x11 on: the length asked for, and the
-/// instructions between the two.
+/// Code that reads to its buffer, whose address is then in x11, and writes x12 bytes from x11 on: the length asked for,
+/// and the instructions between the two.
 macro_rules! moving {
     ($asked:expr; $($name:ident $operands:tt),*) => {
         &code![
@@ -26,14 +26,21 @@ macro_rules! moving {
     };
 }
 
-/// A guest of such code: its pages; the length asked for, and the bytes read; the instructions; the step of the write, its place, length
-/// and bytes.
+/// A guest of such code: its pages; the length asked for, and the bytes read; the instructions; the step of the write,
+/// its place, length and bytes.
 macro_rules! guest {
-    ($pages:expr; $asked:expr, $read:expr; $($name:ident $operands:tt),*; $at:expr, $place:expr, $length:expr, $written:expr) => {
+    (
+        $pages:expr; $asked:expr, $read:expr; $($name:ident $operands:tt),*;
+        $at:expr, $place:expr, $length:expr, $written:expr
+    ) => {
         Guest {
             code: moving!($asked; $($name $operands),*),
             pages: $pages,
-            entries: &[Entry::Read(5, 0, $asked, $read), Entry::Moved(2, $at, [1, $place, $length], $written), Entry::Exit($at + 3, 0)],
+            entries: &[
+                Entry::Read(5, 0, $asked, $read),
+                Entry::Moved(2, $at, [1, $place, $length], $written),
+                Entry::Exit($at + 3, 0),
+            ],
         }
     };
 }
@@ -103,6 +110,7 @@ pub const LOOK_UP: Guest = guest!(
 /// code of C libraries passes characters.
 pub const MASK_AND_SHIFT: Guest = guest!(
     1; 4, b"ABCD";
-    lw(x6, 0(x11)), andi(x7, x6, 255), sb(x7, 0(x11)), slli(x7, x7, 8), srli(x7, x7, 8), sb(x7, 1(x11)), srli(x6, x6, 16), sh(x6, 2(x11));
+    lw(x6, 0(x11)), andi(x7, x6, 255), sb(x7, 0(x11)), slli(x7, x7, 8), srli(x7, x7, 8), sb(x7, 1(x11)),
+    srli(x6, x6, 16), sh(x6, 2(x11));
     16, BUFFER, 4, b"AACD"
 );
