@@ -62,7 +62,7 @@ fn fault_of(rt: &impl Runtime, file: &[u8]) -> Option<ImageKind> {
     match load(rt.alloc(), file) {
         Ok(_) => None,
         Err(Fault::At(kind)) => Some(kind),
-        Err(Fault::NoMemory(no_memory)) => panic!(rt; "{no_memory}"),
+        Err(Fault::NoMemory(_)) => rt.abort(),
     }
 }
 

@@ -250,9 +250,12 @@ fn has_row(table: &Flow, i: usize, row: &[u32]) -> bool
     if digits(table.target(i)) != *target || locs.len() != origins.len() {
         return false;
     }
-    locs.iter()
-        .zip(origins)
-        .all(|(loc, origin)| digits(*loc) == *origin)
+    for (loc, origin) in locs.iter().zip(origins) {
+        if digits(*loc) != *origin {
+            return false;
+        }
+    }
+    true
 }
 
 /// Whether the table has these rows and no others.
