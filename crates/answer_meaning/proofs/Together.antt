@@ -180,11 +180,6 @@ module _ (rule : Rule) (law : DeterminedBy rule) (introduces differs : SourceByt
   in_moments m m' n n' e f h =
       subst (λ (x : Moment). AreAlike differs x.done x.left n.done n.left) (sym e) (subst (λ (x : Moment). AreAlike differs m'.done m'.left x.done x.left) (sym f) h)
 
-  in_lists : (x x' y y' z z' w w' : List CallRecord) → x ≡ x' → y ≡ y' → z ≡ z' → w ≡ w' → AreAlike differs x' y' z' w' → AreAlike differs x y z w
-  in_lists x x' y y' z z' w w' e f g h k =
-      subst (λ (v : List CallRecord). AreAlike differs v y z w) (sym e) (subst (λ (v : List CallRecord). AreAlike differs x' v z w) (sym f)
-      (subst (λ (v : List CallRecord). AreAlike differs x' y' v w) (sym g) (subst (λ (v : List CallRecord). AreAlike differs x' y' z' v) (sym h) k)))
-
   stepped : (t : ℕ) → t < steps a → t < steps b → Together t (first_at t) (second_at t) → Stepped t
   stepped t h g both = by (does a.inputs m (done_at a s t u.first h)) (does b.inputs n (done_at b s t u.second g))
     where
@@ -250,8 +245,7 @@ module _ (rule : Rule) (law : DeterminedBy rule) (introduces differs : SourceByt
             };
             pc = ap (λ (z : State). z.pc) sa ∙ given_pc m.state m.left ∙ ap (λ (x : ℕ). wrap (x + 4)) both.pc ∙ sym (given_pc n.state n.left) ∙ sym (ap (λ (z : State). z.pc) ta);
             records = in_moments (advance m) (after_call m m.left) (advance n) (after_call n n.left) after_m after_n
-                (in_lists (after_call m m.left).done (done_after m.done m.left) (after_call m m.left).left (left_after m.left) (after_call n n.left).done (done_after n.done n.left) (after_call n n.left).left (left_after n.left)
-                moved_m.done moved_m.left_is moved_n.done moved_n.left_is answered.records);
+                (rw (moved_m.done, moved_m.left_is, moved_n.done, moved_n.left_is) answered.records);
             given = λ call k.
                 subst (λ (z : CallSeen). (i : ℕ) → i < z.length → differs (record { channel = z.channel; offset = z.offset + i }) ≡ false → get_or (bytes_given m.left) i 0 ≡ get_or (bytes_given n.left) i 0)
                 (some_is (sym (ap (λ (z : StepSeen). z.call) se) ∙ k)) answered.alike.given;
