@@ -176,10 +176,6 @@ module _ (rule : Rule) (law : DeterminedBy rule) (introduces differs : SourceByt
     given : (call : CallSeen) → (step_of (first_at t)).call ≡ Some call → (i : ℕ) → i < call.length → differs (record { channel = call.channel; offset = call.offset + i }) ≡ false
         → get_or (bytes_given (first_at t).left) i 0 ≡ get_or (bytes_given (second_at t).left) i 0
 
-  in_moments : (m m' n n' : Moment) → m ≡ m' → n ≡ n' → AreAlike differs m'.done m'.left n'.done n'.left → AreAlike differs m.done m.left n.done n.left
-  in_moments m m' n n' e f h =
-      subst (λ (x : Moment). AreAlike differs x.done x.left n.done n.left) (sym e) (subst (λ (x : Moment). AreAlike differs m'.done m'.left x.done x.left) (sym f) h)
-
   stepped : (t : ℕ) → t < steps a → t < steps b → Together t (first_at t) (second_at t) → Stepped t
   stepped t h g both = by (does a.inputs m (done_at a s t u.first h)) (does b.inputs n (done_at b s t u.second g))
     where
@@ -224,8 +220,7 @@ module _ (rule : Rule) (law : DeterminedBy rule) (introduces differs : SourceByt
               answer = ap (λ (o : Outcome). answer_by o m.left) e ∙ sym (ap (λ (o : Outcome). answer_by o n.left) f);
             };
             pc = ap (λ (z : State). z.pc) sa ∙ known (Retired v) (Retired w) e f ∙ sym (ap (λ (z : State). z.pc) ta);
-            records = in_moments (advance m) (record m { time = m.time + 1; state = v }) (advance n) (record n { time = n.time + 1; state = w }) (advance_plain m v e) (advance_plain n w f)
-                (record { received_as_much = both.records.received_as_much; written_as_much = both.records.written_as_much; bytes = both.records.bytes; answers = both.records.answers });
+            records = rw (advance_plain m v e, advance_plain n w f) (record { received_as_much = both.records.received_as_much; written_as_much = both.records.written_as_much; bytes = both.records.bytes; answers = both.records.answers });
             given = λ call k. none_is (sym (ap (λ (z : StepSeen). z.call) se) ∙ k);
           }
       by (Plain v x e se sa) (Calls d f k te ta) = absurd (known (Retired v) (Called d) e f)
@@ -244,8 +239,7 @@ module _ (rule : Rule) (law : DeterminedBy rule) (introduces differs : SourceByt
               answer = ap (λ (o : Outcome). answer_by o m.left) e ∙ answered.alike.words ∙ sym (ap (λ (o : Outcome). answer_by o n.left) f);
             };
             pc = ap (λ (z : State). z.pc) sa ∙ given_pc m.state m.left ∙ ap (λ (x : ℕ). wrap (x + 4)) both.pc ∙ sym (given_pc n.state n.left) ∙ sym (ap (λ (z : State). z.pc) ta);
-            records = in_moments (advance m) (after_call m m.left) (advance n) (after_call n n.left) after_m after_n
-                (rw (moved_m.done, moved_m.left_is, moved_n.done, moved_n.left_is) answered.records);
+            records = rw (after_m, after_n, moved_m.done, moved_m.left_is, moved_n.done, moved_n.left_is) answered.records;
             given = λ call k.
                 subst (λ (z : CallSeen). (i : ℕ) → i < z.length → differs (record { channel = z.channel; offset = z.offset + i }) ≡ false → get_or (bytes_given m.left) i 0 ≡ get_or (bytes_given n.left) i 0)
                 (some_is (sym (ap (λ (z : StepSeen). z.call) se) ∙ k)) answered.alike.given;
@@ -278,7 +272,7 @@ module _ (rule : Rule) (law : DeterminedBy rule) (introduces differs : SourceByt
       record {
         pc = ap (λ (m : Moment). m.state.pc) (moment_later t (start s a)) ∙ step.pc ∙ sym (ap (λ (m : Moment). m.state.pc) (moment_later t (start s b)));
         alike = λ l clear. alike_next rule a b s introduces (λ x. differs x ≡ false) law u.first u.second t l (omega arith) (omega arith) step.same (received_alike t (omega arith) (omega arith) step) before.alike clear;
-        records = in_moments (first_at (suc t)) (advance (first_at t)) (second_at (suc t)) (advance (second_at t)) (moment_later t (start s a)) (moment_later t (start s b)) step.records;
+        records = rw (moment_later t (start s a), moment_later t (start s b)) step.records;
       }
 
   pub same_steps : (t : ℕ) → t < steps a → t < steps b → SameStep rule (first_at t) (second_at t)
