@@ -4,7 +4,7 @@ use Rattle.std.specs.Int.{w32, to_le_bytes}
 use Rattle.isa.specs.declared.Effect.{Effect}
 use Rattle.isa.specs.declared.Effect.TheVariants.{SetRegister, Jump, Branch, Load, Store, MoveOn, EnvironmentCall, Breakpoint}
 use Rattle.isa.specs.declared.Instr.{Instr}
-use Rattle.isa.specs.declared.Instr.TheVariants.{Lui, Auipc, Jal, Jalr, Beq, Bne, Blt, Bge, Bltu, Bgeu, Lb, Lh, Lw, Lbu, Lhu, Sb, Sh, Sw, Addi, Slti, Sltiu, Xori, Ori, Andi, Slli, Srli, Srai, Add, Sub, Sll, Slt, Sltu, Xor, Srl, Sra, Or, And, Mul, Mulh, Mulhsu, Mulhu, Div, Divu, Rem, Remu, Fence, Ecall, Ebreak}
+use Rattle.isa.specs.declared.Instr.TheVariants.{Lb, Lh, Lw, Lbu, Lhu, Sb, Sh, Sw, Ecall, Ebreak}
 use Rattle.isa.specs.Encodings.{Fits}
 use Rattle.isa.specs.Machine.{State, execute, effect_of, address_of, wrap, is_aligned, jumped, landed, branched, loaded, stored, in_window, low_bytes}
 use Rattle.isa.proofs.Window.{holds_by}
@@ -26,24 +26,11 @@ IsAccess (Load d address n is_signed) (Loads load) = FitsLoad load
 IsAccess (Load d address n is_signed) a = ⊥
 IsAccess (Store address n v) (Stores store) = FitsStore store
 IsAccess (Store address n v) a = ⊥
-IsAccess (SetRegister d v) a = a ≡ Neither
-IsAccess (Jump d target) a = a ≡ Neither
-IsAccess (Branch taken target) a = a ≡ Neither
-IsAccess MoveOn a = a ≡ Neither
 IsAccess EnvironmentCall a = Unit {0}
 IsAccess Breakpoint a = Unit {0}
+IsAccess e a = a ≡ Neither
 
 accesses : (s : State) (i : Instr) → Fits i → IsAccess (effect_of s i) (access_of i)
-accesses s (Lui d imm) fits = refl
-accesses s (Auipc d imm) fits = refl
-accesses s (Jal d imm) fits = refl
-accesses s (Jalr d a imm) fits = refl
-accesses s (Beq a b imm) fits = refl
-accesses s (Bne a b imm) fits = refl
-accesses s (Blt a b imm) fits = refl
-accesses s (Bge a b imm) fits = refl
-accesses s (Bltu a b imm) fits = refl
-accesses s (Bgeu a b imm) fits = refl
 accesses s (Lb d a imm) (target, base, small) = record { target = target; base = base; size = inl refl }
 accesses s (Lh d a imm) (target, base, small) = record { target = target; base = base; size = inr (inl refl) }
 accesses s (Lw d a imm) (target, base, small) = record { target = target; base = base; size = inr (inr refl) }
@@ -52,36 +39,9 @@ accesses s (Lhu d a imm) (target, base, small) = record { target = target; base 
 accesses s (Sb a b imm) (base, source, small) = record { source = source; base = base; size = inl refl }
 accesses s (Sh a b imm) (base, source, small) = record { source = source; base = base; size = inr (inl refl) }
 accesses s (Sw a b imm) (base, source, small) = record { source = source; base = base; size = inr (inr refl) }
-accesses s (Addi d a imm) fits = refl
-accesses s (Slti d a imm) fits = refl
-accesses s (Sltiu d a imm) fits = refl
-accesses s (Xori d a imm) fits = refl
-accesses s (Ori d a imm) fits = refl
-accesses s (Andi d a imm) fits = refl
-accesses s (Slli d a k) fits = refl
-accesses s (Srli d a k) fits = refl
-accesses s (Srai d a k) fits = refl
-accesses s (Add d a b) fits = refl
-accesses s (Sub d a b) fits = refl
-accesses s (Sll d a b) fits = refl
-accesses s (Slt d a b) fits = refl
-accesses s (Sltu d a b) fits = refl
-accesses s (Xor d a b) fits = refl
-accesses s (Srl d a b) fits = refl
-accesses s (Sra d a b) fits = refl
-accesses s (Or d a b) fits = refl
-accesses s (And d a b) fits = refl
-accesses s (Mul d a b) fits = refl
-accesses s (Mulh d a b) fits = refl
-accesses s (Mulhsu d a b) fits = refl
-accesses s (Mulhu d a b) fits = refl
-accesses s (Div d a b) fits = refl
-accesses s (Divu d a b) fits = refl
-accesses s (Rem d a b) fits = refl
-accesses s (Remu d a b) fits = refl
-accesses s (Fence kept) fits = refl
 accesses s Ecall fits = tt
 accesses s Ebreak fits = tt
+accesses s i fits = refl
 
 lands : (s : State) (i : Instr) (is_there : Bool) (target : ℕ) → IsNoAccess i → is_aligned target ≡ is_there → IsOutcome s i (landed is_there (record s { pc = target })) 0 (landing is_there target) (state_of (pc_after s.pc (landing is_there target)) s.registers s.base s.memory)
 lands s i true target none e = (record { retires = refl; reaches = refl }, refl, e, none)
@@ -103,8 +63,7 @@ by_effect s i (Load d address n is_signed) access = by (in_window s address n) (
   where
     by : (b : Bool) (a : Access) → access_of i ≡ a → IsAccess (Load d address n is_signed) a → IsOutcome s i (loaded s b d address n is_signed) address (loading b (load_in a) address) (state_of (pc_after s.pc (loading b (load_in a) address)) (set_if b s.registers d (loaded_value s address n is_signed)) s.base s.memory)
     by true (Loads load) is fits = (record { retires = refl; reaches = refl }, refl, ap load_in is, fits)
-    by true (Stores store) is access = absurd access
-    by true Neither is access = absurd access
+    by true a is access = absurd access
     by false a is access = (refl, refl)
 by_effect s i (Store address n v) access = by (in_window s address n) refl (access_of i) refl access
   where
@@ -116,12 +75,10 @@ by_effect s i (Store address n v) access = by (in_window s address n) refl (acce
         let short = low_short n v in
         let written : IsWritten s.memory (address - s.base) (written_if true s.memory (address - s.base) (low_bytes n v)) = record { bytes = low_bytes n v; few = low_few n v; inside = omega arith; is = refl } in
         (record { retires = refl; reaches = refl }, above, written, ap store_in is, fits)
-    by true e (Loads load) is access = absurd access
-    by true e Neither is access = absurd access
+    by true e a is access = absurd access
     by false e a is access = (refl, refl)
 by_effect s i MoveOn none = (record { retires = refl; reaches = refl }, refl, none)
-by_effect s i EnvironmentCall none = (refl, refl)
-by_effect s i Breakpoint none = (refl, refl)
+by_effect s i e none = (refl, refl)
 
 pub does : (s : State) (i : Instr) → Fits i → IsOutcome s i (execute s (effect_of s i)) (address_of (effect_of s i)) (next_of s i (effect_of s i)) (state_of (pc_after s.pc (next_of s i (effect_of s i))) (registers_after s (effect_of s i)) s.base (memory_after s (effect_of s i)))
 does s i fits = by_effect s i (effect_of s i) (accesses s i fits)

@@ -67,9 +67,8 @@ plain_step s after offset slot at known retires =
 
 -- the pc after a step is that of the word whose number it leads to
 leads : (base number : ℕ) (made : Made) (before after : List ℕ) → base % 4 ≡ 0 → base < 2 ^ 32 → number < 2 ^ 30 → IsChanged before base made after → made_pc (pc_of base number) made ≡ pc_of base (number_after base number made)
-leads base number made.On before after aligned low few changed = omega arith
 leads base number (made.To target) before after aligned low few (same, there, high) = omega arith
-leads base number (made.Stored place) before after aligned low few changed = omega arith
+leads base number made before after aligned low few changed = omega arith
 
 -- the slots are right, and the steps that were made were told
 pub record IsRunning {W : Type 0} (told : Tells W) (wants : Wants W) (from : State) (was : W) (slots : List Slot) (most left : ℕ) (here : State) (w : W) : Type 0 where
