@@ -98,7 +98,8 @@ pub record Relates (few many : Rule) (R : List Loc → List Loc → Type 0) : Ty
   pub moves : (r i : ℕ) → R (lane r i) (lane r i)
   pub loads : (address i : ℕ) → R (byte_of address i) (byte_of address i)
   pub computes : (origins : ℕ → List Loc) (i : ℕ) → R (computed few origins i) (computed many origins i)
-  pub keeps : (kept origins : ℕ → List Loc) (i : ℕ) → R (kept i) (kept i) → Within (kept i) (origins i) → R (kept_or_computed few kept origins i) (kept_or_computed many kept origins i)
+  pub keeps : (kept origins : ℕ → List Loc) (i : ℕ) → R (kept i) (kept i) → Within (kept i) (origins i)
+      → R (kept_or_computed few kept origins i) (kept_or_computed many kept origins i)
   pub bases : (a : ℕ) (ls : List Loc) → R ls ls → R (with_base few a ls) (with_base many a ls)
   pub extends : (a place n i : ℕ) → R (signed_load few a place n i) (signed_load many a place n i)
 
@@ -233,7 +234,8 @@ compute_in_index = record {
 
 module _ {few many : Rule} (c : Nest few many) where
   pub flows_within : FlowsWithin few many
-  flows_within step l k h = Contains-has loc_total loc_same (from many step l) k ((related c step l within_same).inside k (has-Contains loc_total (from few step l) k h))
+  flows_within step l k h =
+      Contains-has loc_total loc_same (from many step l) k ((related c step l within_same).inside k (has-Contains loc_total (from few step l) k h))
 
   -- ---- along a trace
 

@@ -112,7 +112,8 @@ module _ (copied : CopiedContents) (log : Log) (s : State) (run : IsRun log s) (
   latest t l a h = record { there = refl; before = omega arith; still = λ u low high. absurd (omega arith) }
 
   -- and the arrival was before the path's end
-  at_arrival : (t : ℕ) (l : Loc) (a : Arrival) (rest : List Arrival) → IsPath rule b (trace s log) t l (a ∷ rest) → (a.number < t) × IsPath rule b (trace s log) (a.number + 1) a.loc (a ∷ rest)
+  at_arrival : (t : ℕ) (l : Loc) (a : Arrival) (rest : List Arrival) → IsPath rule b (trace s log) t l (a ∷ rest) → (a.number < t)
+      × IsPath rule b (trace s log) (a.number + 1) a.loc (a ∷ rest)
   at_arrival t l a [] h = (h.0.before, (latest t l a h.0, h.1))
   at_arrival t l a (x ∷ xs) h = (h.0.before, (latest t l a h.0, h.1, h.2))
 

@@ -203,7 +203,8 @@ record IsAnsweredAt (log : Log) (m : Moment) (call : CallSeen) : Type 0 where
   answered : IsAnswered m.state log.inputs m.left
   seen : call_seen m m.left ≡ call
 
-answered_as : (log : Log) (s : State) (t : ℕ) (call : CallSeen) → IsRun log s → t < steps log → (step_of (moment_at s log t)).call ≡ Some call → IsAnsweredAt log (moment_at s log t) call
+answered_as : (log : Log) (s : State) (t : ℕ) (call : CallSeen) → IsRun log s → t < steps log → (step_of (moment_at s log t)).call ≡ Some call
+    → IsAnsweredAt log (moment_at s log t) call
 answered_as log s t call run h e = by (does log.inputs (moment_at s log t) (done_at log s t run h))
   where
     by : Does log.inputs (moment_at s log t) → IsAnsweredAt log (moment_at s log t) call

@@ -107,7 +107,8 @@ module _ {s t : State} (ss : IsSound s) (st : IsSound t) {rule : Rule} {P : List
       (not_ten s.registers (x % 2 ^ 32) (x / 2 ^ 32) r i n) (not_ten t.registers (y % 2 ^ 32) (y / 2 ^ 32) r i n) (high r i)) r i
     where
       high : (r i : ℕ) → P (origins_by (to_register 11 nothing) (Reg r i)) (lane_of (get_or (slice_set s.registers 11 (x / 2 ^ 32)) r 0) i) (lane_of (get_or (slice_set t.registers 11 (y / 2 ^ 32)) r 0) i)
-      high r i = to_set c 11 (x / 2 ^ 32) (y / 2 ^ 32) (wrap (s.pc + 4)) (wrap (t.pc + 4)) nothing ss st (omega arith) (λ j h. same_value ss st c (x / 2 ^ 32) (y / 2 ^ 32) j f) (Reg r i)
+      high r i =
+          to_set c 11 (x / 2 ^ 32) (y / 2 ^ 32) (wrap (s.pc + 4)) (wrap (t.pc + 4)) nothing ss st (omega arith) (λ j h. same_value ss st c (x / 2 ^ 32) (y / 2 ^ 32) j f) (Reg r i)
 
   -- ---- an answered call
 

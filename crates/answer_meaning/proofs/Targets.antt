@@ -304,13 +304,15 @@ module _ {s t : State} {rule : Rule} {P : List Loc → ℕ → ℕ → Type 0} (
   kept p q (Mem m) = c.self (Mem m)
 
   -- the lanes of a register get these words; of other places, and of what is no lane, the rest of the table says where they come from
-  pub to_lanes : (d v w : ℕ) (origins : ℕ → List Loc) (rest : ℕ → ℕ → List Loc) (x y : ℕ → ℕ → ℕ) → ((i : ℕ) → x d i ≡ lane_of v i) → ((i : ℕ) → y d i ≡ lane_of w i)
+  pub to_lanes : (d v w : ℕ) (origins : ℕ → List Loc) (rest : ℕ → ℕ → List Loc) (x y : ℕ → ℕ → ℕ) → ((i : ℕ) → x d i ≡ lane_of v i)
+      → ((i : ℕ) → y d i ≡ lane_of w i)
       → ((i : ℕ) → i < 4 → P (origins i) (lane_of v i) (lane_of w i)) → ((i : ℕ) → P (rest d (suc (suc (suc (suc i))))) 0 0)
       → ((r i : ℕ) → (d ≡ r → ⊥) → P (rest r i) (x r i) (y r i)) → (r i : ℕ)
       → P (cond ((d == r) && (0 == i)) (origins 0) (cond ((d == r) && (1 == i)) (origins 1) (cond ((d == r) && (2 == i)) (origins 2) (cond ((d == r) && (3 == i)) (origins 3) (rest r i))))) (x r i) (y r i)
   to_lanes d v w origins rest x y is_v is_w each beyond other r i = by (d == r) refl
     where
-      past : (a b e f : Bool) (ls : List Loc) → a ≡ false → b ≡ false → e ≡ false → f ≡ false → P ls 0 0 → P (cond a (origins 0) (cond b (origins 1) (cond e (origins 2) (cond f (origins 3) ls)))) 0 0
+      past : (a b e f : Bool) (ls : List Loc) → a ≡ false → b ≡ false → e ≡ false → f ≡ false → P ls 0 0
+          → P (cond a (origins 0) (cond b (origins 1) (cond e (origins 2) (cond f (origins 3) ls)))) 0 0
       past false false false false ls m n o p h = h
       past a b e f ls m n o p h = cc
 
@@ -323,7 +325,8 @@ module _ {s t : State} {rule : Rule} {P : List Loc → ℕ → ℕ → Type 0} (
           let j : ℕ = suc (suc (suc (suc i))) in
           past (0 == j) (1 == j) (2 == j) (3 == j) (rest d j) (ne_eqb 0 j (λ f. omega arith)) (ne_eqb 1 j (λ f. omega arith)) (ne_eqb 2 j (λ f. omega arith)) (ne_eqb 3 j (λ f. omega arith)) (beyond i)
 
-      by : (b : Bool) → (d == r) ≡ b → P (cond (b && (0 == i)) (origins 0) (cond (b && (1 == i)) (origins 1) (cond (b && (2 == i)) (origins 2) (cond (b && (3 == i)) (origins 3) (rest r i))))) (x r i) (y r i)
+      by : (b : Bool) → (d == r) ≡ b
+          → P (cond (b && (0 == i)) (origins 0) (cond (b && (1 == i)) (origins 1) (cond (b && (2 == i)) (origins 2) (cond (b && (3 == i)) (origins 3) (rest r i))))) (x r i) (y r i)
       by true e =
           subst (λ (k : ℕ). P (cond (0 == i) (origins 0) (cond (1 == i) (origins 1) (cond (2 == i) (origins 2) (cond (3 == i) (origins 3) (rest k i))))) (x k i) (y k i)) (eqb-true d r e)
           (carry _ _ (lane_of v i) _ (lane_of w i) (is_v i) (is_w i) (hit i))

@@ -151,8 +151,10 @@ record IsNeeded (s : State) (a b : Log) (ds : List Decision) (t : ℕ) (l : Loc)
   from_nowhere : origins (under Compute all) (trace s a) t l ≡ []
   needed : NothingListed s a → StepsAreSame Compute → ⊥
 
-needed_at : {s : State} {a b : Log} {ds : List Decision} {t : ℕ} {l : Loc} → IsRun a s × IsRun b s → decided (under Compute all) s a ≡ ds → origins (under Compute all) (trace s a) t l ≡ []
-    → SameAnswers all [] a.records b.records → (k : ℕ) → k < steps a → k < steps b → (SameStep Compute (moment_at s a k) (moment_at s b k) → ⊥) → IsNeeded s a b ds t l
+needed_at : {s : State} {a b : Log} {ds : List Decision} {t : ℕ} {l : Loc} → IsRun a s × IsRun b s → decided (under Compute all) s a ≡ ds
+    → origins (under Compute all) (trace s a) t l ≡ []
+    → SameAnswers all [] a.records b.records → (k : ℕ) → k < steps a → k < steps b → (SameStep Compute (moment_at s a k) (moment_at s b k) → ⊥)
+    → IsNeeded s a b ds t l
 needed_at {s = s} {a = a} {b = b} runs e f answers k h g differ = record {
   runs = runs;
   decides = e;

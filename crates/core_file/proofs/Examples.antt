@@ -51,7 +51,8 @@ unfolding core_mark note
 at_a_trap = (refl, refl, refl)
 
 -- before and at a word that stands for no instruction
-at_an_illegal_instruction : (core_file (begun (zeros 4)) (log 2) 0 ≡ bytes 5 0x00 0 (zeros 4)) × (core_file (begun (zeros 4)) (log 2) 1 ≡ bytes 4 0x04 7 (zeros 4))
+at_an_illegal_instruction : (core_file (begun (zeros 4)) (log 2) 0 ≡ bytes 5 0x00 0 (zeros 4))
+    × (core_file (begun (zeros 4)) (log 2) 1 ≡ bytes 4 0x04 7 (zeros 4))
 unfolding core_mark note
 at_an_illegal_instruction = (refl, refl)
 

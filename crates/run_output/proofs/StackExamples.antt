@@ -30,7 +30,8 @@ abbrev three : List ℕ
 three = 0x200 ∷ 0x100 ∷ 0x40 ∷ []
 
 -- the innermost returns, or the outermost; where none is in progress; and to an address that is nobody's return address
-returns : (after_return 0x204 three ≡ 0x100 ∷ 0x40 ∷ []) × (after_return 0x44 three ≡ []) × (after_return 0x44 [] ≡ []) × (after_return 0x208 three ≡ 0x100 ∷ 0x40 ∷ [])
+returns : (after_return 0x204 three ≡ 0x100 ∷ 0x40 ∷ []) × (after_return 0x44 three ≡ []) × (after_return 0x44 [] ≡ [])
+    × (after_return 0x208 three ≡ 0x100 ∷ 0x40 ∷ [])
 returns = (refl, refl, refl, refl)
 
 -- of two calls from one place the innermost ends; a change over; and a call from the last address
