@@ -1,5 +1,5 @@
 -- Ranges that are cut wherever a row begins or ends to list source bytes: a row lists all bytes of such a range, or none.
-use Rattle.std.proofs.Common.{◌≡◌, ℕ, ◌+◌, ◌-◌, ◌^◌, ◌<◌, ◌≤◌, ◌⊎◌, inl, inr, List, [], ◌∷◌, ◌++◌, length, map, get_or, Bool, true, cond, refl, sym, ap, ap₂, ◌∙◌, subst, arith}
+use Rattle.std.proofs.Common.{◌≡◌, ℕ, ◌-◌, ◌^◌, ◌<◌, ◌≤◌, ◌⊎◌, inl, inr, List, [], ◌∷◌, ◌++◌, length, map, get_or, Bool, true, cond, refl, sym, ap, ap₂, ◌∙◌, subst, arith}
 use Rattle.std.specs.Prelude.{All, Contains, ◌||◌}
 use Rattle.std.specs.List.{filter, flat_map, AllByRecursion}
 use Rattle.std.specs.Ordering.{eq_by_cmp}
@@ -7,47 +7,27 @@ use Rattle.std.proofs.lemmas.Bool.{cases_lt}
 use Rattle.std.proofs.lemmas.List.{append_assoc, get_or_default}
 use Rattle.std.proofs.lemmas.List.Elements.{recursion_from_All}
 use Rattle.std.proofs.lemmas.List.Folds.{list_any-append}
-use Rattle.std.proofs.lemmas.List.FromFn.{get_or-map-range_with_len}
 use Rattle.flow_model.specs.declared.SourceByte.{SourceByte}
 use Rattle.flow_model.specs.Orders.{source_cmp}
-use Rattle.flow_model.proofs.Orders.{source_total, source_same}
 use Rattle.lists.specs.Sets.{has}
-use Rattle.lists.proofs.Algebra.{has-Contains, Contains-has}
 use Rattle.lists.proofs.Lists.{all-parts}
 use Rattle.lists.proofs.Tests.{same-tests}
 use Rattle.report_model.specs.Rows.{Row}
 use Rattle.source_ranges.specs.declared.SourceRange.{SourceRange}
 use Rattle.source_ranges.specs.Ranges.{byte_on, bytes_of, ranges_of}
-use Rattle.source_ranges.proofs.Kept.{range, bytes-ranges, bytes-split, length-bytes}
+use Rattle.source_ranges.proofs.Kept.{range, bytes-ranges, bytes-split, IsFrom, one_of, is_one}
 use Rattle.sink_collect.specs.Places.{place_on, start_of, end_of, ends_of, cuts_of, IsNotWithin, IsUncut, IsAlike}
 
 -- ---- the bytes of a range
 
-pub record IsIn (b : SourceByte) (r : SourceRange) : Type 0 where
-  pub channel : b.channel ≡ r.channel
-  pub low : r.from ≤ b.offset
-  pub high : b.offset < r.past
+abbrev pub IsIn : SourceByte → SourceRange → Type 0
+IsIn b r = IsFrom b r.channel r.from (r.past - r.from)
 
 pub in_has : (b : SourceByte) (r : SourceRange) → IsIn b r → has source_cmp b (bytes_of r) ≡ true
-in_has b r h =
-    let k : ℕ = b.offset - r.from in
-    let low = h.low in
-    let high = h.high in
-    let inside : k < length (bytes_of r) = omega (arith, length-bytes r) in
-    let is : get_or (bytes_of r) k b ≡ byte_on r.channel b.offset =
-    get_or-map-range_with_len (byte_on r.channel) r.from (r.past - r.from) k b.offset b (omega arith) (omega arith) in
-    has-Contains source_total (bytes_of r) b (k, inside, is ∙ ap (λ (c : ℕ). byte_on c b.offset) (sym h.channel))
+in_has b r = is_one b r.channel r.from (r.past - r.from)
 
 pub has_in : (b : SourceByte) (r : SourceRange) → has source_cmp b (bytes_of r) ≡ true → IsIn b r
-has_in b r h =
-    let found = Contains-has source_total source_same (bytes_of r) b h in
-    let k = found.0 in
-    let inside : k < r.past - r.from = omega (arith, found.1, length-bytes r) in
-    let is : byte_on r.channel (r.from + k) ≡ b =
-    sym (get_or-map-range_with_len (byte_on r.channel) r.from (r.past - r.from) k (r.from + k) b inside refl) ∙ found.2 in
-    let channel : r.channel ≡ b.channel = ap (λ (x : SourceByte). x.channel) is in
-    let offset : r.from + k ≡ b.offset = ap (λ (x : SourceByte). x.offset) is in
-    record { channel = sym channel; low = omega arith; high = omega arith }
+has_in b r = one_of b r.channel r.from (r.past - r.from)
 
 -- ---- one range, and the ends of others
 

@@ -1,7 +1,8 @@
 -- One text after another, of which the last may wait.
 use Rattle.std.proofs.Common.{◌≡◌, ◌∙◌, ap, sym, subst, append_assoc, append-nil, ℕ, List, [], ◌++◌, Result}
+use Rattle.std.specs.Result.{IsErrAnd}
 use Rattle.outer_io.specs.Pieces.{Putting, Laws, Puts}
-use Rattle.outer_io.proofs.PiecesLemmas.{puts-then}
+use Rattle.outer_io.proofs.PiecesLemmas.{puts-fault, puts-then}
 use Rattle.sink_collect.specs.Waiting.{waiting}
 
 module _ {S : Type 0} (putting : Putting S) (laws : Laws putting) where
@@ -26,6 +27,11 @@ module _ {S : Type 0} (putting : Putting S) (laws : Laws putting) where
   -- after room was made a text was added to what waits
   pub added : (s t : S × List ℕ) (xs new : List ℕ) → (waiting putting).whole s [] t → new ≡ t.1 ++ xs → (waiting putting).whole s xs (t.0, new)
   added s t xs new p e = (p.0, p.1, ap (λ (text : List ℕ). p.0 ++ text) e ∙ joined p.0 t.1 s.1 [] xs p.2)
+
+  -- or no room was made, and a fault came
+  pub unmade : {F : Type 0} (Q : F → Type 0) (s t : S × List ℕ) (xs : List ℕ) (r : Result (Unit {0}) F) → IsErrAnd r Q → (waiting putting).part s [] t
+      → Puts (waiting putting) s xs t r
+  unmade Q s t xs r e p = puts-fault (waiting putting) Q s t xs r e (waiting_laws.part_first s t [] xs p)
 
   -- in the end what waits is put
   pub put-last : {F : Type 0} (s t u : S) (waits xs : List ℕ) (r : Result (Unit {0}) F) → (waiting putting).whole (s, []) xs (t, waits) → Puts putting t waits u r → Puts putting s xs u r

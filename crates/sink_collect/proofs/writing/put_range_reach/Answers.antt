@@ -1,7 +1,7 @@
 use Rattle.std.proofs.Common.{subst, arith, ℕ, List}
 use Rattle.outer_io.proofs.PiecesLemmas.{puts-fault}
 use Rattle.sink_collect.specs.Reaching.{line_of}
-use Rattle.sink_collect.proofs.Lines.{all_texts, one_more_text, some_texts}
+use Rattle.sink_collect.proofs.Putting.{all_texts, one_more_text, some_texts}
 use Rattle.sink_collect.proofs.writing.put_range_reach.Goals as goal
 
 pub returns-in_err-put_reach : goal.returns-in_err-put_reach

@@ -1,6 +1,6 @@
 use Rattle.std.proofs.Common.{◌≤◌}
 use Rattle.sink_collect.specs.Reaching.{line_of}
-use Rattle.sink_collect.proofs.Lines.{texts_before}
+use Rattle.sink_collect.proofs.Putting.{texts_before}
 use Rattle.sink_collect.proofs.writing.put_range_reach.Given as goal
 
 -- the lines of the bytes so far were put

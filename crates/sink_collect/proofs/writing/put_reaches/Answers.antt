@@ -6,7 +6,7 @@ use Rattle.source_ranges.specs.declared.SourceRange.{SourceRange}
 use Rattle.source_ranges.specs.Ranges.{bytes_of}
 use Rattle.outer_io.proofs.PiecesLemmas.{puts-fault, puts-some}
 use Rattle.sink_collect.specs.Reaching.{line_of}
-use Rattle.sink_collect.proofs.Lines.{lines_of, lines_of_ranges}
+use Rattle.sink_collect.proofs.Putting.{lines_of, lines_of_ranges}
 use Rattle.sink_collect.proofs.writing.put_reaches.Goals as goal
 
 pub returns-in_err-put_range_reach : goal.returns-in_err-put_range_reach

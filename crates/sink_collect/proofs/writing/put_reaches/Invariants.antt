@@ -1,6 +1,6 @@
 use Rattle.std.proofs.Common.{take}
 use Rattle.std.specs.List.{flat_map}
-use Rattle.sink_collect.proofs.Lines.{lines_of}
+use Rattle.sink_collect.proofs.Putting.{lines_of}
 use Rattle.sink_collect.proofs.writing.put_reaches.Given as goal
 
 abbrev pub invariant-loop-reach : goal.invariant-loop-reach
