@@ -23,9 +23,6 @@ returns-in-Some-clause-ascending c =
     subst (Ascends source_cmp) (sym (c.in_ok-to_vec.ensures.items_if_clones_equal (λ x y e. e) ∙ c.answer.ensures))
     (ascends_answer c.args.asked.now c.args.answers.now c.form.ensures c.in-Some.loc)
 
-pub of_runs-requires : goal.of_runs-requires
-of_runs-requires c = subst (Ascends source_cmp) (sym c.runs.ensures) c.requires.sources
-
 pub returns-clause-value : goal.returns-clause-value
 returns-clause-value c =
     resolved_is (answer_to c.args.asked.now c.args.answers.now) (ascends_answer c.args.asked.now c.args.answers.now c.form.ensures)
@@ -53,12 +50,3 @@ loop-loc-preserved c =
           ∙ sym (among_more before c.args.terms.now.sources locs b index none c.loop-loc-test.true);
       large = c.in_ok-add_answer.ensures.large;
     }
-
-pub add_answer-requires-clause-ascending : goal.add_answer-requires-clause-ascending
-add_answer-requires-clause-ascending c = c.form.ensures
-
-pub add_answer-requires-clause-large : goal.add_answer-requires-clause-large
-add_answer-requires-clause-large c = c.loop-loc.invariant.large
-
-pub returns-clause-ascending : goal.returns-clause-ascending
-returns-clause-ascending c = c.in_ok-all.ensures.ascending

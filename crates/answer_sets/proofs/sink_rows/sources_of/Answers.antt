@@ -11,9 +11,6 @@ use Rattle.answer_sets.proofs.Each.{none_in}
 use Rattle.answer_sets.proofs.Finding.{ascends_answer}
 use Rattle.answer_sets.proofs.sink_rows.sources_of.Goals as goal
 
-pub of_runs-requires : goal.of_runs-requires
-of_runs-requires c = subst (Ascends source_cmp) (sym c.runs.ensures) c.requires.sources
-
 pub returns-then-is_empty : goal.returns-then-is_empty
 returns-then-is_empty c =
     let sources = c.args.terms.now.sources in
@@ -30,9 +27,6 @@ pub returns-in-Some : goal.returns-in-Some
 returns-in-Some c =
     let before = answer_to c.args.asked.now c.args.answers.now in
     IfOk-weaker c.of.result _ _ (λ all is. is ∙ c.answer.ensures ∙ ap (resolved before) (sym c.in-Some.ensures)) c.of.ensures
-
-pub of-requires-2 : goal.of-requires-2
-of-requires-2 c = subst (Ascends source_cmp) (sym c.deref.ensures.value) c.in_ok-all.ensures.ascending
 
 pub returns : goal.returns
 returns c =
