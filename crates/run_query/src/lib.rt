@@ -4,8 +4,8 @@
 //!
 //! Crates above rest on this: `query` gives the rows of the run, what crosses each inner cut, and how many events moved.
 //! `check_and_query` is `replayer::Job::check`, and gives the rows of the run too, of which it analyses all or the first
-//! steps alone, where they are enough. Of the whole run it finds what it needs in the replay that checks the log: `check_whole`
-//! its sinks, `check_parts` the checkpoints at its cuts. `number` gives what was asked at the cuts their numbers.
+//! steps alone, where they are enough. Of the whole run it finds what it needs in the replay that checks the log: its sinks
+//! (`seq_taint::check_whole`), or the checkpoints at its cuts (`check_parts`). `number` gives what was asked at the cuts their numbers.
 #![tactic(auto)]
 
 mod answer;
@@ -18,7 +18,7 @@ mod whole;
 
 pub use answer::{QueryAnswer, answer_with};
 pub use checked::check_and_query;
-pub use checking::{check_parts, check_whole};
+pub use checking::check_parts;
 pub use crossed::{Crossed, number};
 pub use part::Part;
 pub use whole::query;
