@@ -202,14 +202,18 @@ module _ (capacity : ℕ) where
   room_lacks (Some l) (Some l') over whole got to r m =
       let q = m l refl in
       ap (room_to capacity got l.sent) q.is ∙ no_room l capacity (got q.phase) l.sent q.of_link.0 q.of_link.1 q.list_is refl r.not_ready
-  room_lacks link link' over whole got to r m = absurd r
+  room_lacks None None over whole got to r m = absurd r
+  room_lacks None (Some l') over whole got to r m = absurd r
+  room_lacks (Some l) None over whole got to r m = absurd r
 
   pub item_lacks : (link link' : Link) (sent : Phase → List Message) (from : Option Phase) → IsPopRefused link link'
       → ((l : BothEnds Message) → link ≡ Some l → IsOther capacity false sent from l) → is_some (item_from sent (got_by (got_on link)) from) ≡ false
   item_lacks (Some l) (Some l') sent from r m =
       let q = m l refl in
       ap (λ f. is_some (item_from sent l.got f)) q.is ∙ no_item l l.got (sent q.phase) refl q.list_is r.not_ready
-  item_lacks link link' sent from r m = absurd r
+  item_lacks None None sent from r m = absurd r
+  item_lacks None (Some l') sent from r m = absurd r
+  item_lacks (Some l) None sent from r m = absurd r
 
 of_link : (capacity : ℕ) (link : Link) (l : BothEnds Message) → link ≡ Some l → IsLinkOf capacity link → (l.capacity ≡ capacity) × Delivered l.sent l.got l.capacity
 of_link capacity link l e h = subst (IsLinkOf capacity) e h
