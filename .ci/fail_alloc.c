@@ -1,6 +1,6 @@
-// Refuses one allocation of a program, for docs/MEMORY.md: preloaded, it answers no memory to the call of this number
-// (FAIL_ALLOC, counted from 1) among malloc, calloc, realloc, posix_memalign and aligned_alloc. Without FAIL_ALLOC it
-// refuses nothing, and at the end it prints on standard error how many calls there were.
+// Refuses one allocation of a program, for .ci/refused_allocations: preloaded, it answers no memory to the call of this
+// number (FAIL_ALLOC, counted from 1) among malloc, calloc, realloc, posix_memalign and aligned_alloc. Without FAIL_ALLOC
+// it refuses nothing, and at the end it prints on standard error how many calls there were.
 #define _GNU_SOURCE
 #include <dlfcn.h>
 #include <errno.h>
