@@ -22,7 +22,7 @@ use Rattle.answer_meaning.specs.Content.{content, AgreeAt}
 
 -- ---- a step that is done
 
--- the record that answers a call is one of a log, and lawful; with no record left, the call is the exit
+-- the record that answers a call is one of a log, and lawful; where no record is left, nothing is asked of the call
 abbrev pub IsAnswered : State → ℕ → List CallRecord → Type 0
 IsAnswered s inputs [] = Unit {0}
 IsAnswered s inputs (r ∷ rs) = IsRecord r × IsLawful s inputs r
