@@ -9,3 +9,9 @@ mod Paths
 mod Alike
 mod Together
 mod Worked
+mod TextReading
+mod TextPieces
+mod TextInstructions
+mod TextLines
+mod TextParts
+mod WorkedTexts

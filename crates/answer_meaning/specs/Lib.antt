@@ -8,3 +8,4 @@ pub mod PathMeaning
 pub mod Environments
 pub mod DecisionLaws
 pub mod Recordings
+pub mod PrefixFree

@@ -18,6 +18,8 @@
 //! Of decisions, of two runs from one beginning, of which the second is answered the same as long as it asks what the first
 //! asked, but for bytes that no decision of the first lists: they do the same at each step as far as both go; by compute
 //! they end alike; and what differs, differs at a byte that the report lists. So also two recordings over inputs as long.
+//!
+//! Of texts, that one that was cut off is known: no front of a text that ends by a line `end ..` is a text of the same kind.
 #![tactic(auto)]
 
 pub mod laws;

@@ -4,7 +4,7 @@ use Rattle.std.proofs.Common.{◌≡◌, ℕ, List, [], ◌∷◌, ◌++◌, ◌
 use Rattle.std.specs.Prelude.{◌==◌, if◌then◌else◌}
 use Rattle.std.specs.List.{flat_map}
 use Rattle.std.proofs.lemmas.List.{take-append-drop, length-take, append-nil}
-use Rattle.whole_texts.specs.PrefixFree.{ArePrefixFree}
+use Rattle.answer_meaning.specs.PrefixFree.{ArePrefixFree}
 
 -- at the beginning of a line, inside a line, inside one that begins with `e`, and after that
 pub data Reader : Type 0 where

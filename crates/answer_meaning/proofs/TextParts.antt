@@ -8,9 +8,9 @@ use Rattle.log_model.specs.Logs.{Log, steps}
 use Rattle.printed_names.specs.Lines.{lines_end}
 use Rattle.run_output.specs.Stack.{stack_within, stack_text}
 use Rattle.run_output.specs.Stacks.{stack_part, line_count, stacks_text}
-use Rattle.whole_texts.specs.PrefixFree.{ArePrefixFree}
-use Rattle.whole_texts.proofs.Reading.{AtStart, Over, read, stop, Reads, no_front}
-use Rattle.whole_texts.proofs.Lines.{last, stack_alone, part}
+use Rattle.answer_meaning.specs.PrefixFree.{ArePrefixFree}
+use Rattle.answer_meaning.proofs.TextReading.{AtStart, Over, read, stop, Reads, no_front}
+use Rattle.answer_meaning.proofs.TextLines.{last, stack_alone, part}
 
 abbrev pub is_part : List ℕ → Bool
 is_part [] = false

@@ -6,8 +6,8 @@ use Rattle.std.specs.Fmt.{decimal, signed_decimal}
 use Rattle.isa.specs.declared.Instr.{Instr}
 use Rattle.isa.specs.declared.Instr.TheVariants.{Lui}
 use Rattle.instruction_text.specs.Assembly.{mnemonic_of, operands_of, register_text, distance_text, operands_text, instruction_text}
-use Rattle.whole_texts.proofs.Reading.{Inside, Reads, nothing, ◌⨾◌}
-use Rattle.whole_texts.proofs.Pieces.{no_feeds, plain, blank, number, signed_number}
+use Rattle.answer_meaning.proofs.TextReading.{Inside, Reads, nothing, ◌⨾◌}
+use Rattle.answer_meaning.proofs.TextPieces.{no_feeds, plain, blank, number, signed_number}
 
 without_feeds : (i : Instr) → no_feeds (mnemonic_of i) ≡ true
 without_feeds (Lui d imm) = refl

@@ -12,10 +12,10 @@ use Rattle.decision_find.specs.Text.{decisions_text}
 use Rattle.run_output.specs.Calls.{calls_text}
 use Rattle.run_output.specs.Stack.{pcs_text}
 use Rattle.run_output.specs.Summary.{summary_text}
-use Rattle.whole_texts.proofs.Reading.{are_prefix_free}
-use Rattle.whole_texts.proofs.Lines.{report, influence, ranges, path, decisions, calls_of, stack, numbers}
-use Rattle.whole_texts.proofs.Parts.{stacks}
-use Rattle.whole_texts.proofs.laws.no_front_is_a_text.Goals as goal
+use Rattle.answer_meaning.proofs.TextReading.{are_prefix_free}
+use Rattle.answer_meaning.proofs.TextLines.{report, influence, ranges, path, decisions, calls_of, stack, numbers}
+use Rattle.answer_meaning.proofs.TextParts.{stacks}
+use Rattle.answer_meaning.proofs.laws.no_front_is_a_text.Goals as goal
 
 pub returns : goal.returns
 returns c = record {

@@ -36,9 +36,9 @@ use Rattle.run_output.specs.Lines.{Line, MovedLine, RefusedLine, ClockLine, Othe
 use Rattle.run_output.specs.Calls.{lines, end_text, calls_text}
 use Rattle.run_output.specs.Stack.{pc_line, pcs_text, calls_after, stack_within, stack_text}
 use Rattle.run_output.specs.Stacks.{stack_part}
-use Rattle.whole_texts.proofs.Reading.{AtStart, Inside, InLast, Over, Reads, nothing, ◌⨾◌, each}
-use Rattle.whole_texts.proofs.Pieces.{no_feeds, plain, in_last, first, blank, feed, last_feed, number, number_first, number_last, signed_number, pc, pc_first, name, name_first, loc, point, point_first, span_first, range, quoted}
-use Rattle.whole_texts.proofs.Instructions.{mnemonic, instruction}
+use Rattle.answer_meaning.proofs.TextReading.{AtStart, Inside, InLast, Over, Reads, nothing, ◌⨾◌, each}
+use Rattle.answer_meaning.proofs.TextPieces.{no_feeds, plain, in_last, first, blank, feed, last_feed, number, number_first, number_last, signed_number, pc, pc_first, name, name_first, loc, point, point_first, span_first, range, quoted}
+use Rattle.answer_meaning.proofs.TextInstructions.{mnemonic, instruction}
 
 -- the last line begins with `e`, and no other
 begins_last : Reads AtStart (0x65 ∷ []) InLast

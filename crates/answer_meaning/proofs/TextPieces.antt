@@ -16,7 +16,7 @@ use Rattle.source_ranges.specs.declared.SourceRange.{SourceRange}
 use Rattle.source_ranges.specs.Ranges.{span_text, range_text}
 use Rattle.printed_names.specs.Places.{pc_text}
 use Rattle.printed_names.specs.Quoted.{is_plain, quoted_byte, left_out, quoted_text}
-use Rattle.whole_texts.proofs.Reading.{AtStart, Inside, InLast, Over, read, Reads, nothing, ◌⨾◌, each}
+use Rattle.answer_meaning.proofs.TextReading.{AtStart, Inside, InLast, Over, read, Reads, nothing, ◌⨾◌, each}
 
 -- ---- characters
 

@@ -1,9 +1,9 @@
 -- Examples: texts of which one is the beginning of another, and a text that is read no further than its last line.
 use Rattle.std.proofs.Common.{◌≡◌, replicate, refl, arith}
 use Rattle.std.specs.Prelude.{codes}
-use Rattle.whole_texts.specs.PrefixFree.{ArePrefixFree}
-use Rattle.whole_texts.proofs.Reading.{AtStart, read, stop}
-use Rattle.whole_texts.proofs.Parts.{read_parts}
+use Rattle.answer_meaning.specs.PrefixFree.{ArePrefixFree}
+use Rattle.answer_meaning.proofs.TextReading.{AtStart, read, stop}
+use Rattle.answer_meaning.proofs.TextParts.{read_parts}
 
 -- one dot is a beginning of two
 dots_are_not : ArePrefixFree (λ n. replicate n 0x2e) → ⊥

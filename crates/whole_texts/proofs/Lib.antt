@@ -1,6 +1,0 @@
-mod Reading
-mod Pieces
-mod Instructions
-mod Lines
-mod Parts
-mod Worked
