@@ -8,7 +8,6 @@ mod head0;
 mod tail0;
 mod tail1;
 mod tail2;
-mod tail3;
 mod texts;
 
 pub use texts::{mark, push_head, push_tail};

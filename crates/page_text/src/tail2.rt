@@ -1,300 +1,162 @@
 //! A part of the page's constant texts. Made from page/page.html by page/make_text.
 
 /// The part.
-pub(crate) const TEXT: &[u8] = br#"    const record = recordAt(where, from);
-    const bytes = Array.from(where.bytes.subarray(from, past));
-    const made = element('div', { className: 'line' },
-      words('span', where.records[record] === from ? `#${record}` : '', 'record'),
-      words('span', byteName(where, from), 'offset'));
-    const cells = (className, texts) => element('span', { className }, ...texts.map((text) => words('span', text)));
-    if (byId('hex').checked) made.append(cells('hex', bytes.map((b) => b.toString(16).padStart(2, '0'))));
-    made.append(cells('text', [...shown(bytes)]));
-    made.span = { place: where, from, past };
-    return made;
-  }
-
-  paint(made) {
-    if (!made.span) return;
-    const { place: where, from } = made.span;
-    for (const group of made.querySelectorAll('.hex, .text')) {
-      let at = from;
-      for (const cell of group.children) {
-        const look = LOOKS[where.marks[at++]];
-        if (cell.className !== look) cell.className = look;
-      }
-    }
-  }
-
-  /** A strip of where in all lines the lit, the chosen and the foreign bytes stand. */
-  drawMap() {
-    const { map } = this;
-    map.width = map.clientWidth;
-    map.height = map.clientHeight;
-    const pen = map.getContext('2d');
-    const style = getComputedStyle(map);
-    const strip = (spans, color, left, width) => {
-      pen.fillStyle = style.getPropertyValue(color);
-      let bottom = -1;
-      for (const { place: where, from, past } of spans) {
-        if (!this.places.includes(where)) continue;
-        const top = Math.max(bottom, Math.floor((this.lineOf(where, from) / this.count) * map.height));
-        bottom = Math.max(top + 2, Math.ceil(((this.lineOf(where, past - 1) + 1) / this.count) * map.height));
-        pen.fillRect(left, top, width, bottom - top);
-        bottom -= 1;
-      }
-    };
-    strip(mixed[this.side], '--foreign', 9, 5);
-    strip(linked, '--lit', 0, 9);
-    strip(chosen ? [chosen] : [], '--accent', 0, 9);
-  }
-
-  lineOf(where, offset) {
-    return where.firstLine + 1 + lastUpTo(offset, where.starts);
-  }
-
-  scrollTo(where, offset, toTop = false) {
-    const { view } = this;
-    const top = (this.lineOf(where, offset) * LINE) / this.scale;
-    const seen = view.scrollTop + LINE <= top && top + 2 * LINE <= view.scrollTop + view.clientHeight;
-    if (toTop || !seen) view.scrollTop = toTop ? top : top - view.clientHeight / 3;
-  }
-
-  byteUnder(event) {
-    const cell = event.target.closest?.('.hex > span, .text > span');
-    const line = cell?.closest('.line');
-    return line ? byteSpan(line.span.place, line.span.from + [...cell.parentNode.children].indexOf(cell)) : null;
-  }
-
-  pointed(event) {
-    const byte = this.byteUnder(event);
-    if (event.buttons === 1 && byte && byte.place === chosen?.place) extend(byte.from);
-    else point(byte);
-  }
-
-  pressed(event) {
-    if (event.button !== 0) return;
-    const byte = this.byteUnder(event);
-    const line = event.target.closest('.line')?.span;
-    if (line && event.target.className === 'record') choose(recordSpan(line.place, recordAt(line.place, line.from)));
-    else if (byte && event.shiftKey && byte.place === chosen?.place) extend(byte.from);
-    else if (byte) choose(byte);
-  }
-
-  key(event) {
-    if (event.altKey || event.metaKey || (event.ctrlKey && !['Home', 'End'].includes(event.key))) return;
-    const where = this.places.includes(chosen?.place) ? chosen.place : this.places[0];
-    if (!where) return;
-    const at = where === chosen?.place ? cursor : -1;
-    const moved = this.moved(event, where, at);
-    if (moved !== undefined) this.moveTo(where, moved, event.shiftKey);
-    else if (event.key === 'Enter' && linked.length > 0) reveal(linked[0]);
-    else if (event.key === 'a' && at >= 0) choose(joinedSpan(where, at), at);
-    else if (event.key === 'r' && at >= 0) choose(recordSpan(where, recordAt(where, at)), at);
-    else if (event.key === 'n') step(1, this.side);
-    else if (event.key === 'p') step(-1, this.side);
-    else if (event.key === '/') byId('wanted').focus();
-    else if (event.key === 'Escape') choose(null);
-    else return;
-    event.preventDefault();
-  }
-
-  /** The offset that a key moves the cursor to, which may lie outside the channel; undefined where it moves none. */
-  moved(event, where, at) {
-    const { starts, bytes } = where;
-    const line = Math.max(0, lastUpTo(at, starts));
-    const end = (k) => (starts[k + 1] ?? bytes.length) - 1;
-    const down = (n) => {
-      const next = at < 0 ? 0 : line + n;
-      if (next < 0) return -1;
-      return next < starts.length ? Math.min(starts[next] + Math.max(0, at - starts[line]), end(next)) : bytes.length;
-    };
-    const page = Math.max(1, Math.floor(this.view.clientHeight / LINE) - 2);
-    const targets = {
-      ArrowRight: at + 1,
-      ArrowLeft: at - 1,
-      ArrowDown: down(1),
-      ArrowUp: down(-1),
-      PageDown: down(page),
-      PageUp: down(-page),
-      Home: event.ctrlKey ? 0 : starts[line],
-      End: event.ctrlKey ? bytes.length - 1 : end(line),
-    };
-    return targets[event.key];
-  }
-
-  /** Moves the cursor to an offset of a channel, or on to the channel before or after it. */
-  moveTo(where, offset, selects) {
-    const next = this.places[this.places.indexOf(where) + (offset < 0 ? -1 : 1)];
-    if (!selects && next && (offset < 0 || offset >= where.bytes.length)) {
-      this.moveTo(next, offset < 0 ? next.bytes.length - 1 : 0, false);
-      return;
-    }
-    const inside = Math.min(where.bytes.length - 1, Math.max(0, offset));
-    if (selects && where === chosen?.place) extend(inside);
-    else choose(byteSpan(where, inside));
-    this.scrollTo(where, inside);
-  }
-}
-
-// ---- What is chosen, what is pointed at, what is lit for it, and what is told of it.
-
-let data;
-let panes = [];
-let mixed = { in: [], out: [] };
-let chosen = null;
-let anchor = 0;
-let cursor = 0;
-let pointedAt = null;
-let linked = [];
-
-/** Lights what the pointed byte, or else the chosen span, came from or came to, and tells of it. */
-function light() {
-  const span = pointedAt ?? chosen;
-  linked = moveMark(LIT, linked, span ? linkedTo(span) : []);
-  tell(span);
-  for (const pane of panes) {
-    pane.draw();
-    pane.drawMap();
-  }
-}
-
-let waiting = 0;
-function lightSoon() {
-  waiting ||= requestAnimationFrame(() => {
-    waiting = 0;
-    light();
-  });
-}
-
-function point(byte) {
-  if (byte?.place === pointedAt?.place && byte?.from === pointedAt?.from) return;
-  pointedAt = byte;
-  lightSoon();
-}
-
-function choose(span, at = span?.from) {
-  if (chosen) remark(chosen, CHOSEN | CURSOR, 0);
-  chosen = span;
-  pointedAt = null;
-  if (span) {
-    anchor = cursor = at;
-    remark(span, 0, CHOSEN);
-    remark(byteSpan(span.place, at), 0, CURSOR);
-  }
-  lightSoon();
-}
-
-function extend(offset) {
-  if (offset === cursor) return;
-  const from = anchor;
-  choose({ place: chosen.place, from: Math.min(from, offset), past: Math.max(from, offset) + 1 }, offset);
-  anchor = from;
-}
-
-/** Scrolls to a span, if a pane has it. */
-function reveal(span) {
-  panes.find((pane) => pane.places.includes(span.place))?.scrollTo(span.place, span.from);
-}
-
-/** Chooses a span, shows it, and shows the first of what is lit for it. */
-function go(span) {
-  choose(span);
-  light();
-  reveal(span);
-  if (linked.length > 0) reveal(linked[0]);
-  byId('bytes').scrollIntoView({ block: 'nearest' });
-}
-
-/** Goes on to the next, or back to the last, of the bytes of one side that came from, or came to, a foreign record. */
-function step(by, side) {
-  const spans = mixed[side];
-  if (spans.length === 0) return;
-  const onSide = chosen && (chosen.place.kind === 'in') === (side === 'in');
-  const from = onSide ? chosen : { place: spans[0].place, from: -1 };
-  const next = by > 0 ? spans.find((s) => inOrder(s, from) > 0) : spans.findLast((s) => inOrder(s, from) < 0);
-  go(next ?? spans.at(by > 0 ? 0 : -1));
-}
-
-function describe(span) {
-  const { place: where, from, past } = span;
-  const parts = [many(past - from, 'byte')];
-  if (where.bytes.length > 0) {
-    const record = recordAt(where, from);
-    parts.push(past > recordEnd(where, record) ? `records ${record} to ${recordAt(where, past - 1)}`
-      : `${past - from === 1 ? 'byte' : 'bytes'} ${numbersInRecord(span)} of record ${record}`);
-    parts.push(`${where.kind === 'in' ? 'read' : 'written'} at step ${decimal(timeOf(where, from))}`);
-  }
-  return parts.join(', ');
-}
-
-/** How many steps were done before a byte was read or written. */
-function timeOf(where, offset) {
-  return where.calls[lastUpTo(offset, where.calls, (call) => call.first)].time;
-}
-
-/** A query's line that asks for a span's first byte: of an input as a source, else as a sink; for all of a register. */
-function queryLine({ place: where, from }) {
-  if (where.kind === 'memory') return `sink mem ${from} 1 at ${where.time}`;
-  if (where.kind === 'register') return `sink reg ${where.number} at ${where.time}`;
-  return `${where.kind === 'in' ? 'source' : 'sink'} ${where.number} ${from} ${from + 1}`;
-}
-
-/** The first byte of some spans that is in none of the others; both are in order. */
-function firstBeside(spans, others) {
-  for (const { place: where, from, past } of spans) {
-    let at = from;
-    for (const other of others) if (other.place === where && other.from <= at) at = Math.max(at, other.past);
-    if (at < past) return byteSpan(where, at);
-  }
-  return undefined;
-}
-
-/**
- * The command line that tells how a byte came there: of the first byte of a span, and the first that is lit for it. A
- * query asks for a register whole, and of it `path` takes the first byte that lists the source: so for a byte of a
- * register it is a source that no byte before it has, and where each has one there is no such command.
- */
-function pathCommand(span) {
-  const { place: where, from } = span;
-  const others = span.past === from + 1 ? linked : linkedTo(byteSpan(where, from));
-  const other = firstBeside(others, where.kind === 'register' ? sourcesOf({ place: where, from: 0, past: from }) : []);
-  if (!other) return '';
-  const lines = [`rule ${data.facts.rule}`, queryLine(span), queryLine(other)];
-  return `printf '${lines.join('\\n')}\\n' >path.query; jet path PROG LOG path.query`;
-}
+pub(crate) const TEXT: &[u8] =
+    br#"if (!other) return ''; const lines = [`rule ${data.facts.rule}`, queryLine(span), queryLine(other)];
+return `printf '${lines.join('\\n')}\\n' >path.query; jet path PROG LOG path.query`; }
 
 const NO_PATH = 'No query asks for the path of this byte alone: a query asks for a register whole, and bytes of it '
-  + 'before this one have the same sources, so their path would be told.';
-
-function pathLine(span) {
-  const command = pathCommand(span);
-  if (command === '') return span.place.kind === 'register' && linked.length > 0 ? words('div', NO_PATH) : '';
-  return element('div', {}, 'The path of its first byte: ', words('code', command), ' ',
-    button('Copy', () => navigator.clipboard.writeText(command)));
-}
++ 'before this one have the same sources, so their path would be told.';
+function pathLine(span) { const command = pathCommand(span);
+if (command === '') return span.place.kind === 'register' && linked.length > 0 ? words('div', NO_PATH) : '';
+return element('div', {}, 'The path of its first byte: ', words('code', command), ' ',
+button('Copy', () => navigator.clipboard.writeText(command))); }
 
 const HINT = 'Point at a byte, or choose one or several: what it came from, or came to, lights up on the other side '
-  + 'and is listed here.';
-const MOST_TOLD = 40;
-
-/** Whether a source span and the span that it came to are of different records, by the own one of what was written. */
++ 'and is listed here.'; const MOST_TOLD = 40;
 function isForeign(source, sink) {
-  return sink.place.kind === 'out' && recordsBack(sink.place, recordAt(sink.place, sink.from), source) !== 0;
+return sink.place.kind === 'out' && recordsBack(sink.place, recordAt(sink.place, sink.from), source) !== 0; }
+function tell(span) { if (!span) { byId('told').replaceChildren(words('span', HINT, 'faint')); return; }
+const isSource = span.place.kind === 'in'; const size = linked.reduce((sum, s) => sum + s.past - s.from, 0);
+const foreign = new Map(linked.map((other) => [other, isSource ? isForeign(span, other) : isForeign(other, span)]));
+const told = [...linked].sort((a, b) => foreign.get(b) - foreign.get(a)).slice(0, MOST_TOLD);
+const list = told.map((other) => element('li', {},
+spanLink(other), ' ', words('code', preview(other)), ` ${describe(other)}`,
+foreign.get(other) ? words('span', ' foreign', 'alarm') : '')); byId('told').replaceChildren(
+element('div', {}, `${sideName(span.place)} `, words('strong', spanName(span), 'mono'), ' ',
+words('code', preview(span)), ` ${describe(span)}`),
+words('div', `came ${isSource ? 'to' : 'from'} ${size === 0 ? 'nothing that is listed'
+: `${many(size, 'byte')} in ${many(linked.length, 'range')}:`}`), element('ul', {}, ...list),
+linked.length > MOST_TOLD ? `and ${many(linked.length - MOST_TOLD, 'more range')}` : '', pathLine(span)); }
+function reportLines() { if (!chosen) return ''; const lines = [];
+for (let offset = chosen.from; offset < chosen.past && lines.length < 10000; offset++) {
+const names = [byteName(chosen.place, offset)]; for (const span of linkedTo(byteSpan(chosen.place, offset))) {
+for (let o = span.from; o < span.past; o++) names.push(byteName(span.place, o)); }
+lines.push(`${names.join(' ')}\n`); } return lines.join(''); }
+const MOST_FOUND = 100000;
+let found = []; let searched = ''; let nextFound = 0;
+function findBytes(wanted) { const spans = []; if (wanted.length === 0) return spans;
+for (const where of [...data.inputs, ...data.outputs]) {
+const next = (from) => where.bytes.indexOf(wanted[0], from);
+for (let at = next(0); at >= 0 && spans.length < MOST_FOUND; at = next(at + 1)) {
+if (standsAt(where, at, wanted)) spans.push({ place: where, from: at, past: at + wanted.length }); } }
+return spans; }
+function findNamed(places, name) { const [, ...parts] = /^\s*(\d+):(\d+)(?:-(\d+))?\s*$/.exec(name) ?? [];
+const [number, from, past = from + 1] = parts.filter((part) => part !== undefined).map(Number);
+const where = places.find((p) => p.number === number);
+return where && from < past && past <= where.bytes.length ? [{ place: where, from, past }] : []; }
+function wantedSpans(what, text) { if (what === 'text') return findBytes(encoded(text));
+if (what !== 'hex') return findNamed(what === 'in' ? data.inputs : data.outputs, text);
+const isHex = /^(\s*[0-9a-f]{2})*\s*$/i.test(text);
+return findBytes(isHex ? Array.from(text.matchAll(/[0-9a-f]{2}/gi), ([pair]) => parseInt(pair, 16)) : []); }
+function findNext(event) { event.preventDefault(); const what = byId('what').value;
+const text = byId('wanted').value; if (`${what} ${text}` !== searched) {
+found = moveMark(FOUND, found, wantedSpans(what, text)); searched = `${what} ${text}`; nextFound = 0; }
+byId('matches').textContent = text === '' ? '' : matchesText(); if (found.length > 0) go(found[nextFound]);
+else light(); nextFound = found.length > 0 ? (nextFound + 1) % found.length : 0; }
+function matchesText() { if (found.length === 0) return 'not found';
+const inputs = found.filter((s) => s.place.kind === 'in').length;
+const sides = `${many(inputs, 'input')}, ${many(found.length - inputs, 'output')}`;
+return `${decimal(nextFound + 1)} of ${decimal(found.length)}: ${sides}`; }
+const RULES = { copy: 'only where it is moved',
+keep: 'where it is moved, also by masks and shifts that keep a byte whole',
+compute: 'into all that is computed from it', index: 'into all that is computed from it, and through addresses',
+};
+const TRAPS = { 0: 'a jump to an address that is no multiple of 4', 1: 'no instruction in the window at the pc',
+2: 'an illegal instruction', 3: 'a breakpoint', 5: 'a load outside the window', 7: 'a store outside the window',
+};
+function endText() { const [kind, code, pc] = data.facts.end.split(' ');
+if (kind === 'exit') return `ended by an exit with code ${code}`;
+const place = `0x${Number(pc).toString(16).padStart(8, '0')}`;
+if (kind === 'trap') return `ended by trap ${code}, ${TRAPS[code]}, at pc ${place}`;
+return 'was cut off at its limit of steps'; }
+const total = (list, size) => list.reduce((sum, each) => sum + size(each), 0);
+function countWithout(where, bits) { let count = 0;
+for (const marks of where.marks) count += (marks & bits) === 0; return count; }
+function showFacts() { const { facts } = data;
+const pairs = total(data.runs, (run) => run.count * total(run.spans, (s) => s.past - s.from));
+const asked = (places) => decimal(total(places, (where) => countWithout(where, OUTSIDE)));
+const counted = (name, what) => many(Number(facts[name]), what); byId('facts').replaceChildren(
+'By ', words('strong', `rule ${facts.rule}`), ` a byte is followed ${RULES[facts.rule]}. `,
+`${asked(data.inputs)} of ${counted('read', 'byte')} received count as sources, and `,
+`${asked(data.outputs)} of ${counted('written', 'byte')} written are asked for: `,
+`${many(pairs, 'pair')} of an output byte or a point and a source. `,
+`The run took ${counted('steps', 'step')} and ${counted('calls', 'call')}, and ${endText()}. Program SHA-256 `,
+words('code', facts.program)); }
+function recordChoice(where) {
+const how = element('select', { ariaLabel: `Records of ${sideName(where)} ${where.number}` },
+...Object.entries(recordWords(where)).map(([value, textContent]) => element('option', { value, textContent })));
+const size = element('input', { type: 'number', min: 1, value: 16, ariaLabel: 'Bytes in a record' });
+const text = element('input', { ariaLabel: 'What the first line of a record begins with', spellcheck: false });
+const count = element('span'); const set = () => { size.hidden = how.value !== 'size';
+text.hidden = how.value !== 'text';
+setRecords(where, how.value, Math.max(1, Math.floor(Number(size.value)) || 1), text.value);
+count.textContent = `${decimal(where.records.length)}: `; }; how.value = usualRecords(where); set();
+how.onchange = size.onchange = text.onchange = () => { set(); showRecords(); };
+return element('td', {}, count, how, ' ', size, text); }
+function showChannels() { const rows = [...data.inputs, ...data.outputs].map((where) => element('tr', {},
+element('td', {}, link(`${where.kind} ${where.number}`, wholeSpan(where))),
+words('td', decimal(where.bytes.length), 'number'),
+words('td', decimal(countWithout(where, SILENT | OUTSIDE)), 'number'), recordChoice(where)));
+fillTable(byId('channels'), '', ['Channel', 'Bytes', 'With flow', 'Records'], rows); }
+function showRecords() { const flows = analyse();
+moveMark(FOREIGN, [...mixed.in, ...mixed.out], [...flows.mixed.in, ...flows.mixed.out]); mixed = flows.mixed;
+showAlarm(flows.joined); showPatterns(flows); for (const pane of panes) pane.layOut(); light(); }
+function countRecords(where, spans) { const records = new Set();
+for (const { from, past } of spans.filter((span) => span.place === where)) {
+for (let k = recordAt(where, from); k <= recordAt(where, past - 1); k++) records.add(k); } return records.size;
 }
-
-function tell(span) {
-  if (!span) {
-    byId('told').replaceChildren(words('span', HINT, 'faint'));
-    return;
-  }
-  const isSource = span.place.kind === 'in';
-  const size = linked.reduce((sum, s) => sum + s.past - s.from, 0);
-  const foreign = new Map(linked.map((other) => [other, isSource ? isForeign(span, other) : isForeign(other, span)]));
-  const told = [...linked].sort((a, b) => foreign.get(b) - foreign.get(a)).slice(0, MOST_TOLD);
-  const list = told.map((other) => element('li', {},
-    spanLink(other), ' ', words('code', preview(other)), ` ${describe(other)}`,
-    foreign.get(other) ? words('span', ' foreign', 'alarm') : ''));
-  byId('told').replaceChildren(
-    element('div', {}, `${sideName(span.place)} `, words('strong', spanName(span), 'mono'), ' ',
-      words('code', preview(span)), ` ${describe(span)}`),
+function premise(joined) {
+const channels = [...data.inputs, ...data.outputs].filter((where) => joined.has(where));
+const alike = Map.groupBy(channels, (where) => where.recordIs);
+const names = (places) => places.map((where) => `${sideName(where).toLowerCase()} ${where.number}`).join(' and ');
+const parts = Array.from(alike, ([is, places]) => (alike.size === 1 ? is : `${is} of ${names(places)}`));
+return `If ${parts.join(' and ')} is a record: `; }
+function showAlarm(joined) {
+const counted = (places, spans, text) => places.map((where) => [countRecords(where, spans), where])
+.filter(([n]) => n > 0).map(([n, where]) => text(n, where)).join(' and ');
+const written = counted(data.outputs, mixed.out,
+(n, where) => `${decimal(n)} of ${many(where.records.length, 'record')} of output ${where.number}`);
+const received = counted(data.inputs, mixed.in, (n, where) => `${many(n, 'record')} of input ${where.number}`);
+byId('alarm').className = written ? 'alarm' : ''; const headline = written
+? `${written} hold bytes that came from another input record than their own: from ${received}.`
+: 'no written record has bytes that came from another input record than its own.';
+byId('alarm').textContent = joined.size > 0 ? premise(joined) + headline
+: 'No written byte that is asked for has a source byte.';
+for (const id of ['before', 'after']) byId(id).disabled = !written; }
+const PATTERNS_SHOWN = 200;
+function recordName(back) { if (back === 0) return 'own';
+return back > 0 ? `${decimal(back)} before` : `${decimal(-back)} after`; }
+function showPatterns({ patterns, others }) {
+patterns.sort((a, b) => b.isForeign - a.isForeign || inOrder(a.span, b.span));
+const sourcesText = ({ cameFrom, moves }) => cameFrom.slice(0, 4).join(', ')
++ (cameFrom.length > 4 ? ', \u2026' : moves ? ' one by one' : '');
+const rows = patterns.slice(0, PATTERNS_SHOWN).map((p) => element('tr', { className: p.isForeign ? 'foreign' : '' },
+words('td', p.span.place.number), element('td', {}, link(p.at, p.span)), words('td', sourcesText(p), 'mono'),
+words('td', [...new Set(p.back.map(recordName))].slice(0, 4).join(', ')),
+words('td', decimal(p.count), 'number')));
+const caption = [`${many(patterns.length, 'pattern')} of flow from record to record`, others > 0 ? ' and more' : '',
+', those from foreign records first', patterns.length > PATTERNS_SHOWN ? `; ${PATTERNS_SHOWN} are shown` : ''];
+fillTable(byId('patterns'), caption.join(''), ['Out', 'bytes', 'came from', 'of the record', 'times'], rows); }
+const MOST_POINTS = 1000;
+function showPoints() { const runs = data.points.flatMap((where) => where.runs);
+byId('points').hidden = Number(data.facts.points) === 0;
+const sourcesText = (run) => sourcesOf(runSpan(run)).slice(0, 20).map(spanName).join(' ')
++ (run.moves ? ' one by one' : '') || 'nothing that is listed';
+const rows = runs.slice(0, MOST_POINTS).map((run) => element('tr', {},
+element('td', {}, spanLink(runSpan(run))), words('td', sourcesText(run), 'mono')));
+const late = Number(data.facts.points) - total(runs, (run) => run.count);
+const caption = [runs.length > MOST_POINTS ? `The first ${MOST_POINTS} of ${decimal(runs.length)}.` : '',
+late > 0 ? `${many(late, 'point')} lie after the run's end.` : ''];
+fillTable(byId('points').querySelector('table'), caption.join(' '), ['Point', 'came from'], rows); }
+function start() { data = read(byId('data').textContent); document.querySelector('main').hidden = false;
+markRows(); showFacts(); showChannels(); byId('hex').checked = !areText([...data.inputs, ...data.outputs]);
+panes = [new Pane('in', data.inputs), new Pane('out', data.outputs)]; showPoints(); setTimeout(showRecords);
+byId('before').onclick = () => step(-1, 'out'); byId('after').onclick = () => step(1, 'out');
+byId('tools').onsubmit = findNext;
+for (const id of ['width', 'hex', 'broken']) byId(id).onchange = () => panes.forEach((pane) => pane.layOut());
+addEventListener('beforeprint', () => panes.forEach((pane) => pane.draw(true)));
+addEventListener('afterprint', () => panes.forEach((pane) => pane.draw())); }
+try { start(); } catch (error) { byId('facts').textContent = `This page can't be shown: ${error.message}.`;
+throw error; } </script> </body> </html>
 "#;

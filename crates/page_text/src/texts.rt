@@ -3,7 +3,7 @@
 ghost use Rattle.std.specs.Prelude.{◌≡◌, ◌≤◌, ◌++◌, length, OnOk};
 ghost use Rattle.page_text.specs.Texts.{head, tail, mark};
 
-use crate::{head0, tail0, tail1, tail2, tail3};
+use crate::{head0, tail0, tail1, tail2};
 use no_memory::NoMemory;
 
 /// What each page begins with, and no other file: at most 16 bytes.
@@ -32,6 +32,5 @@ pub fn push_tail(out: &mut Vec<u8>) -> Result<(), NoMemory>
     out.extend_from_slice(tail0::TEXT)?;
     out.extend_from_slice(tail1::TEXT)?;
     out.extend_from_slice(tail2::TEXT)?;
-    out.extend_from_slice(tail3::TEXT)?;
     Ok(())
 }
