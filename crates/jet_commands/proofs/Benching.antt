@@ -49,6 +49,7 @@ use Rattle.order_gateway.specs.Recordings.{IsTooLong, IsCause}
 use Rattle.jet_commands.specs.Outcome.{HeldBefore, IsOutcomeBy, IsWork, by_reading}
 use Rattle.jet_commands.specs.Answers.{IsWorkOf}
 use Rattle.jet_commands.specs.Bench.{IsWorkloadJob, asked_in_all}
+use Rattle.jet_commands.proofs.Composing.{owed-map}
 use Rattle.jet_commands.proofs.Fitting.{fitting_start-ok}
 
 -- ---- the guest's run begins
@@ -69,8 +70,7 @@ checked-is_job seed n program im log job e is_log short checked =
 
 -- a log that is recorded fits, so that fitting it can only run out of memory
 no_refusal : (P : Type 0) (found : Result State Refusal) (start : State) (r : Refusal) → found ≡ Ok start → IsWork found (Err r) → IsOwedTo (by_reading P ⊥) r
-no_refusal P found start r e =
-    IsOwedTo-map (by_reading (found ≡ Err r) ⊥) (by_reading P ⊥) (λ p. p) (λ stops. let f : ⊥ = cc in absurd f) (λ p. p) (λ p. p) r
+no_refusal P found start r e = owed-map (found ≡ Err r) P (λ stops. let f : ⊥ = cc in absurd f) r
 
 pub fitted-stops : (P : Type 0) (program : List ℕ) (im : Image) (log : Log) (r : Refusal) → program ≡ guest_file → im ≡ guest_image → Fits guest_file log
     → IsWork (fitting_start (record { bytes = program; image = im }) log) (Err r) → IsOwedTo (by_reading P ⊥) r
@@ -119,12 +119,12 @@ module _ (seed n epoch : ℕ) (job : Job) (is : IsWorkloadJob seed n job) where
   -- there are too many epochs
   pub cuts-stop : (r : Refusal) → IsWork (epochs_check epoch job.log) (Err r) → IsWorkOf (IsBenchAnswer seed n epoch) (Err r)
   cuts-stop r =
-      IsOwedTo-map (by_reading (epochs_check epoch job.log ≡ Err r) ⊥) (by_reading (IsBenchAnswer seed n epoch (Err r)) ⊥) (λ p. p)
+      owed-map (epochs_check epoch job.log ≡ Err r) (IsBenchAnswer seed n epoch (Err r))
       (λ e. record {
         log = job.log;
         is_log = is.is_log;
         outcome = sym (short_log-outcome job.log epoch is.short ∙ and_then-err (epochs_check epoch job.log) (λ few. Ok (lines_of job.log epoch)) r e);
-      }) (λ p. p) (λ p. p) r
+      }) r
 
   lines-are : (cuts : List ℕ) → cuts ≡ cut_times (steps job.log) epoch → bench_text cuts (trace_of job) ≡ lines_of job.log epoch
   lines-are cuts e =

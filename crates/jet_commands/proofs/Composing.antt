@@ -7,6 +7,7 @@ use Rattle.outer_io.specs.Shown.{StoreShown}
 use Rattle.outer_io.specs.Reads.{Reads}
 use Rattle.outer_io.proofs.TellsLemmas.{tells-then, tells-map, tells-both, rose-earlier}
 use Rattle.jet_refusal.specs.declared.refusal.Refusal.{Refusal}
+use Rattle.jet_refusal.specs.Causes.{IsOwedTo}
 use Rattle.jet_refusal.proofs.Causes.{IsOwedTo-map}
 use Rattle.jet_model.specs.Outcomes.{and_then}
 use Rattle.jet_model.specs.Contents.{Contents}
@@ -67,12 +68,6 @@ outcome_by-work R T x answer f g step first (Err r) work =
     IsOwedTo-map (by_reading (answer ≡ Err r) ⊥) (by_reading (Tells f.files g.files (HeldBefore (λ file. T file (Err r)))) (Rose f.faults g.faults))
     (λ p. p) (λ e. held-map (λ file. R file (Ok x)) (λ file. T file (Err r)) f.files g.files (λ file is. step file (Err r) is e) first.1) (λ p. absurd p) (λ p. p) r work
 
--- what follows in one way follows in another
-pub outcome_by-map : {A : Type 0} (R T : Contents → Result A Refusal → Type 0) (f g : StoreShown)
-    → ((file : Contents) (outcome : Result A Refusal) → R file outcome → T file outcome) → (outcome : Result A Refusal) → IsOutcomeBy R f g outcome → IsOutcomeBy T f g outcome
-outcome_by-map R T f g step (Ok y) h = (h.0, held-map (λ file. R file (Ok y)) (λ file. T file (Ok y)) f.files g.files (λ file. step file (Ok y)) h.1)
-outcome_by-map R T f g step (Err r) h = outcome_by-stops R T f g r (λ file. step file (Err r)) h
-
 -- ---- outcomes that are what the files come to
 
 -- two steps
@@ -98,11 +93,13 @@ outcome_of-work of next x f g =
 
 -- ---- work after work
 
+-- a refusal of work for which more holds
+pub owed-map : (P Q : Type 0) → (P → Q) → (r : Refusal) → IsOwedTo (by_reading P ⊥) r → IsOwedTo (by_reading Q ⊥) r
+owed-map P Q step r = IsOwedTo-map (by_reading P ⊥) (by_reading Q ⊥) (λ p. p) step (λ p. p) (λ p. p) r
+
 pub work-then : {A B : Type 0} (answer : Result A Refusal) (next : A → Result B Refusal) (x : A) → answer ≡ Ok x → (outcome : Result B Refusal) → IsWork (next x) outcome → IsWork (and_then answer next) outcome
 work-then answer next x e (Ok y) h = and_then-ok answer next x e ∙ h
-work-then answer next x e (Err r) h =
-    IsOwedTo-map (by_reading (next x ≡ Err r) ⊥) (by_reading (and_then answer next ≡ Err r) ⊥) (λ p. p) (λ d. and_then-ok answer next x e ∙ d) (λ p. p) (λ p. p) r h
+work-then answer next x e (Err r) h = owed-map (next x ≡ Err r) (and_then answer next ≡ Err r) (λ d. and_then-ok answer next x e ∙ d) r h
 
 pub work-stops : {A B : Type 0} (answer : Result A Refusal) (next : A → Result B Refusal) (r : Refusal) → IsWork answer (Err r) → IsWork (and_then answer next) (Err r)
-work-stops answer next r h =
-    IsOwedTo-map (by_reading (answer ≡ Err r) ⊥) (by_reading (and_then answer next ≡ Err r) ⊥) (λ p. p) (λ e. and_then-err answer next r e) (λ p. p) (λ p. p) r h
+work-stops answer next r = owed-map (answer ≡ Err r) (and_then answer next ≡ Err r) (and_then-err answer next r) r

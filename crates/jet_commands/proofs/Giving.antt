@@ -1,12 +1,15 @@
 -- From what an arm of `answer` calls to what the command gives.
 use Rattle.std.proofs.Common.{◌∙◌, ap, refl, ℕ, List, Option, Result, Ok, Err, IfErr, inr, ◌≡◌, sym, subst, Bool, true, false}
 use Rattle.outer_io.specs.Tells.{Tells}
-use Rattle.outer_io.specs.Files.{Files, KeepsFiles}
+use Rattle.std.specs.Result.{IsErrAnd}
+use Rattle.outer_io.specs.Files.{Files, Text, KeepsFiles}
+use Rattle.outer_io.specs.Reads.{Reads}
 use Rattle.outer_io.proofs.TellsLemmas.{tells-then, tells-same, tells-nothing}
 use Rattle.outer_io.proofs.ReadsLemmas.{keeps-none, keeps-then as keep-then}
 use Rattle.jet_refusal.specs.declared.refusal.Refusal.{Refusal}
 use Rattle.jet_model.specs.Contents.{Contents}
 use Rattle.jet_commands.specs.Targets.{Target, ToOutput, ToFile, IfFile, KeepsAllBut}
+use Rattle.jet_commands.specs.Outcome.{IsOutcomeBy}
 use Rattle.jet_commands.specs.Ending.{IsUnasked}
 use Rattle.outer_io.specs.Shown.{StoreShown}
 use Rattle.jet_words.specs.declared.command.Command.{Command}
@@ -40,6 +43,12 @@ if_file (ToFile name) P p = p
 pub untimed-always : (is_timed : Bool) (P : Type 0) → P → Unless is_timed P
 untimed-always true P p = tt
 untimed-always false P p = p
+
+-- a refusal is passed on, and nothing is given
+pub passes : {comes_to : Contents → Result (List ℕ) Refusal → Type 0} {sources : List Text} {target : Target} {f h : StoreShown} (result : Result Given Refusal) (r : Refusal) → IsErrAnd result (λ e. e ≡ r)
+    → IsOutcomeBy comes_to f h (Err r) → Reads sources false f h → Gives comes_to sources target f h result
+passes (Ok given) r is answer reads = absurd is
+passes (Err e) r is answer reads = rw is (record { answer = answer; goes = tt; reads = reads })
 
 -- what is given of the command that an arm tells is given of the command that was handed in
 pub by_arm : (f h : StoreShown) (heard heard_after : Option (List ℕ)) (unread : Type 0) (result : Result Given Refusal) {handed arm : Command} → handed ≡ arm

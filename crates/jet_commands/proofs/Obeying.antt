@@ -1,5 +1,7 @@
 -- From the answer of a command's files, and the delivery of its text, to how the command is obeyed.
 use Rattle.std.proofs.Common.{◌≡◌, ◌∙◌, sym, subst, refl, arith, ℕ, ◌≤◌, inl, inr, List, [], ◌∷◌, Option, Some, None, Result, Ok, Err, OnOk, OnErr, append-nil, true, ◌++◌}
+use Rattle.std.specs.Prelude.{IsOk, IsErr}
+use Rattle.std.proofs.lemmas.Result.{on_ok_weaker, on_err_weaker}
 use Rattle.outer_io.specs.Faults.{Rose, HasCause}
 use Rattle.outer_io.specs.Shown.{StoreShown, SinkShown}
 use Rattle.outer_io.specs.Tells.{Tells, Gains, GainsPrefix}
@@ -23,57 +25,43 @@ use Rattle.outer_io.specs.Reads.{Reads}
 use Rattle.outer_io.proofs.ReadsLemmas.{keeps-none, reads-none, reads-stops}
 use Rattle.jet_commands.specs.declared.delivery.Given.{Given}
 
+on_ok : {T E P : Type 0} (r : Result T E) → (IsOk r → P) → OnOk r P
+on_ok (Ok x) h = h refl
+on_ok (Err e) h = tt
+
+on_err : {T E P : Type 0} (r : Result T E) → (IsErr r → P) → OnErr r P
+on_err (Ok x) h = tt
+on_err (Err e) h = h refl
+
 -- a text was written to the output
 pub told : {T E : Type 0} (text : List ℕ) (f : StoreShown) (o n : SinkShown) (silent : Type 0) (r : Result T E) → HasCause o.faults n.faults r
     → OnOk r (Tells o.written n.written (Gains text)) → OnErr r (Tells o.written n.written (GainsPrefix text)) → Delivery ToOutput text f f o n silent r
-told text f o n silent (Ok x) cause whole part = record {
-  whole = tells-same f.files (Delivers ToOutput o n text) (λ x. whole);
-  part = tt;
-  failed = tt;
+told text f o n silent r cause whole part = record {
+  whole = on_ok_weaker r (λ w. tells-same f.files (Delivers ToOutput o n text) (λ x. w)) whole;
+  part = on_err_weaker r (λ w. tells-same f.files (DeliversPart ToOutput o n text) (λ x. w)) part;
+  failed = on_err r cause.failed;
   keeps = keeps ToOutput f.files;
   opened = tells-nothing f.opened;
   aside = tt;
   later = omega arith;
-  store = refl;
-  output = cause.stood refl;
-}
-told text f o n silent (Err e) cause whole part = record {
-  whole = tt;
-  part = tells-same f.files (DeliversPart ToOutput o n text) (λ x. part);
-  failed = cause.failed refl;
-  keeps = keeps ToOutput f.files;
-  opened = tells-nothing f.opened;
-  aside = tt;
-  later = omega arith;
-  store = tt;
-  output = tt;
+  store = on_ok r (λ is. refl);
+  output = on_ok r cause.stood;
 }
 
 -- a file was
 pub made : {T E : Type 0} (name : Text) (text : List ℕ) (f h : StoreShown) (o : SinkShown) (silent : Type 0) (r : Result T E) → silent → HasCause f.faults h.faults r
     → OnOk r (Tells f.files h.files (IsWritten name text)) → OnErr r (Tells f.files h.files (PutsPart name text)) → Tells f.files h.files (KeepsOtherFiles name)
     → Tells f.opened h.opened (Gains (name ∷ [])) → Delivery (ToFile name) text f h o o silent r
-made name text f h o silent (Ok x) aside cause whole part others opened = record {
+made name text f h o silent r aside cause whole part others opened = record {
   whole = whole;
-  part = tt;
-  failed = tt;
-  keeps = others;
-  opened = opened;
-  aside = aside;
-  later = cause.later;
-  store = cause.stood refl;
-  output = refl;
-}
-made name text f h o silent (Err e) aside cause whole part others opened = record {
-  whole = tt;
   part = part;
-  failed = cause.failed refl;
+  failed = on_err r cause.failed;
   keeps = others;
   opened = opened;
   aside = aside;
   later = cause.later;
-  store = tt;
-  output = tt;
+  store = on_ok r cause.stood;
+  output = on_ok r (λ is. refl);
 }
 
 -- words that stand for no command

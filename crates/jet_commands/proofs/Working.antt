@@ -1,6 +1,7 @@
 -- From what was found in files, and the work on it, to what the files come to.
-use Rattle.std.proofs.Common.{◌≡◌, ◌∙◌, ap, ap₂, sym, refl, subst, ℕ, ◌+◌, List, Bool, [], ◌∷◌, ◌++◌, Option, Some, None, Result, Ok, Err}
-use Rattle.std.specs.Prelude.{codes, if◌then◌else◌}
+use Rattle.std.proofs.Common.{◌≡◌, ◌∙◌, ap, ap₂, sym, refl, subst, append-nil, ℕ, ◌+◌, List, Bool, true, false, [], ◌∷◌, ◌++◌, Option, Some, None, Result, Ok, Err}
+use Rattle.std.specs.Prelude.{codes, if◌then◌else◌, is_ok, IfOk}
+use Rattle.std.specs.Result.{IsErrAnd}
 use Rattle.std.specs.List.{filter}
 use Rattle.std.specs.Fmt.{decimal}
 use Rattle.isa.specs.Machine.{State}
@@ -11,6 +12,7 @@ use Rattle.outer_io.specs.Files.{Text}
 use Rattle.outer_io.specs.Shown.{StoreShown}
 use Rattle.outer_io.specs.Reads.{Reads}
 use Rattle.outer_io.proofs.TellsLemmas.{tells-map}
+use Rattle.outer_io.proofs.ReadsLemmas.{reads-then, reads-stops, reads-less}
 use Rattle.lists.specs.Sets.{set_of}
 use Rattle.flow_model.specs.declared.Rule.{Rule}
 use Rattle.flow_model.specs.declared.SourceByte.{SourceByte}
@@ -28,16 +30,20 @@ use Rattle.replayer.specs.Checks.{IsChecked}
 use Rattle.jet_refusal.specs.declared.refusal.Refusal.{Refusal}
 use Rattle.jet_refusal.proofs.Causes.{IsOwedTo-map}
 use Rattle.jet_model.specs.Outcomes.{and_then}
-use Rattle.jet_model.specs.Contents.{Contents, Run, run_at, query_at}
+use Rattle.jet_model.specs.Contents.{Contents, Run, run_at}
 use Rattle.jet_model.specs.Report.{over_trace, reports_from, reports_of}
-use Rattle.jet_model.specs.Answer.{fitting_start, told_check, cut_answer, analysed_answer, query_answer, unless_other_rule, rules_check}
+use Rattle.jet_model.specs.Answer.{fitting_start, told_check, cut_answer, analysed_answer, unless_other_rule, rules_check}
 use Rattle.jet_model.proofs.AndThen.{and_then-ok, and_then-err}
-use Rattle.jet_commands.specs.Outcome.{AskAlike, AreAlike, IsKeptFor, IsOutcomeOf, HeldBefore, IsOutcomeBy, IsWork, by_reading}
-use Rattle.jet_commands.proofs.Composing.{outcome_of-then, outcome_of-stops, outcome_by-stops, work-then}
+use Rattle.jet_commands.specs.Outcome.{AskAlike, IsKeptFor, IsOutcomeOf, HeldBefore, IsOutcomeBy, IsWork, by_reading, seen_by}
+use Rattle.jet_commands.specs.Targets.{Target}
+use Rattle.jet_commands.specs.Obeying.{Gives, given_text, given_target}
+use Rattle.jet_commands.specs.declared.delivery.Given.{Given}
+use Rattle.jet_commands.proofs.Giving.{passes}
+use Rattle.jet_commands.proofs.Composing.{outcome_of-then, outcome_of-stops, outcome_by-stops, owed-map, work-then, work-stops}
 use Rattle.jet_commands.proofs.Several.{kept-refused as refused-alike}
 use Rattle.jet_words.specs.declared.command.Listing.{Listing}
 use Rattle.jet_words.specs.declared.command.Listing.TheVariants.{BySink, BySource, ByPath, ByRange}
-use Rattle.jet_commands.specs.Answers.{IsWorkOf, fits_and_is_cut, given_by, format_text, decisions_by, made_of, making_answer, IsGivenAlike, AreGivenAlike, named}
+use Rattle.jet_commands.specs.Answers.{IsWorkOf, fits_and_is_cut, given_by, format_text, decisions_by, made_of, making_answer, IsGivenAlike, AreGivenAlike}
 use Rattle.path_find.specs.FirstPair.{first_pair}
 use Rattle.path_find.specs.Answer.{pair_report, path_report}
 use Rattle.range_report.specs.Text.{ranges_report}
@@ -69,62 +75,50 @@ kept_alike : {A B : Type 0} (alike : A → A → Type 0) (kept : A) (next : A �
 kept_alike alike kept next outcome (Ok q) h same = same q h
 kept_alike alike kept next outcome (Err r) h same = absurd h
 
--- what is read after the run, of which something is kept that is alike, and the work on it
-module _ {A : Type 0} (alike : A → A → Type 0) (read : Contents → Result A Refusal) (next : A → Result (List ℕ) Refusal) (f g : StoreShown) where
-  abbrev IsReadAnswer : Contents → Result (List ℕ) Refusal → Type 0
-  IsReadAnswer file answer = and_then (read file) next ≡ answer
+-- what files come to that name a run, and then what is read, of which something is kept that is alike
+module _ {A : Type 0} (alike : A → A → Type 0) (read : Contents → Result A Refusal) (next : Run → A → Result (List ℕ) Refusal) (program log : List ℕ) (more : List Text) (target : Target) where
+  abbrev Told : StoreShown → StoreShown → Result Given Refusal → Type 0
+  Told f h result = Gives (λ file answer. and_then (run_at file program log) (λ run. and_then (read file) (next run)) ≡ answer) (program ∷ log ∷ more) target f h result
 
-  pub kept-refused : (r : Refusal) → IsOutcomeBy (λ file kept. IsKeptFor alike kept (read file)) f g (Err r) → IsOutcomeBy IsReadAnswer f g (Err r)
-  kept-refused r = outcome_by-stops (λ file kept. IsKeptFor alike kept (read file)) IsReadAnswer f g r
-      (λ file h. and_then-err (read file) next r (refused-alike alike r (read file) h))
+  abbrev IsKept : Contents → Result A Refusal → Type 0
+  IsKept file kept = IsKeptFor alike kept (read file)
 
-  pub kept-given : (kept : A) → IsOutcomeBy (λ file kept. IsKeptFor alike kept (read file)) f g (Ok kept) → (outcome : Result (List ℕ) Refusal)
-      → IsWorkOf (λ answer. (q : A) → alike kept q → next q ≡ answer) outcome → IsOutcomeBy IsReadAnswer f g outcome
-  kept-given kept = outcome_by-answer (λ file kept. IsKeptFor alike kept (read file)) (λ answer. (q : A) → alike kept q → next q ≡ answer) IsReadAnswer kept f g
-      (λ file outcome h same. kept_alike alike kept next outcome (read file) h same)
+  -- the run is refused
+  pub run-stops : (f g : StoreShown) (result : Result Given Refusal) (r : Refusal) → IsErrAnd result (λ e. e ≡ r) → IsOutcomeOf (λ file. run_at file program log) f g (Err r) → Reads (program ∷ log ∷ []) false f g
+      → Told f g result
+  run-stops f g result r is first reads =
+      passes result r is (outcome_of-stops (λ file. run_at file program log) (λ run file. and_then (read file) (next run)) f g r first) (reads-stops more reads)
 
--- the run that was opened, and then what is read after it
-pub after_run : {A : Type 0} {names more : List Text} {one two : Bool} (program log : List ℕ) (read : Contents → Result A Refusal) (next : Run → A → Result (List ℕ) Refusal) (run : Run) (f g h : StoreShown)
-    → IsOutcomeOf (λ file. run_at file program log) f g (Ok run) → Reads names one f g → Reads more two g h
-    → (outcome : Result (List ℕ) Refusal) → IsOutcomeBy (λ file answer. and_then (read file) (next run) ≡ answer) g h outcome
-    → IsOutcomeOf (λ file. and_then (run_at file program log) (λ r. and_then (read file) (next r))) f h outcome
-after_run program log read next run = outcome_of-then (λ file. run_at file program log) (λ r file. and_then (read file) (next r)) run
+  module _ (run : Run) (f g h : StoreShown) (first : IsOutcomeOf (λ file. run_at file program log) f g (Ok run)) (reads : Reads (program ∷ log ∷ []) true f g) where
+    abbrev IsNext : Contents → Result (List ℕ) Refusal → Type 0
+    IsNext file answer = and_then (read file) (next run) ≡ answer
 
--- what a run and a query come to
-module _ (given : Query → State → Log → List ℕ) (told : Option ℕ) (program log query : List ℕ) where
-  abbrev pub Asks : Contents → Result (List ℕ) Refusal
-  Asks file = query_answer given told file (named program log query)
+    after_run : {all : Bool} → Reads more all g h → (outcome : Result (List ℕ) Refusal) → IsOutcomeBy IsNext g h outcome
+        → IsOutcomeOf (λ file. and_then (run_at file program log) (λ x. and_then (read file) (next x))) f h outcome
+    after_run after = outcome_of-then (λ file. run_at file program log) (λ x file. and_then (read file) (next x)) run f g h first reads after
 
-  abbrev next : Run → Query → Result (List ℕ) Refusal
-  next run q = analysed_answer told run (given q)
+    -- what is read after it is refused
+    pub kept-stops : {all : Bool} (result : Result Given Refusal) (r : Refusal) → IsErrAnd result (λ e. e ≡ r) → IsOutcomeBy IsKept g h (Err r) → Reads more all g h → Told f h result
+    kept-stops result r is second after =
+        passes result r is
+        (after_run after (Err r) (outcome_by-stops IsKept IsNext g h r (λ file e. and_then-err (read file) (next run) r (refused-alike alike r (read file) e)) second))
+        (subst (λ (names : List Text). Reads names false f h) (append-nil (program ∷ log ∷ more)) (reads-stops [] (reads-then reads after)))
 
-  pub run-refused : (f g : StoreShown) (r : Refusal) → IsOutcomeOf (λ file. run_at file program log) f g (Err r) → IsOutcomeOf Asks f g (Err r)
-  run-refused f g r = outcome_of-stops (λ file. run_at file program log) (λ run file. and_then (query_at file query) (next run)) f g r
-
-  module _ {names more : List Text} {one two : Bool} (run : Run) (f g h : StoreShown) (first : IsOutcomeOf (λ file. run_at file program log) f g (Ok run))
-      (reads : Reads names one f g) (after : Reads more two g h) where
-    pub query-refused : (r : Refusal) → IsOutcomeBy (λ file kept. AreAlike kept (query_at file query)) g h (Err r) → IsOutcomeOf Asks f h (Err r)
-    query-refused r second =
-        after_run program log (λ file. query_at file query) next run f g h first reads after (Err r)
-        (kept-refused Alike (λ file. query_at file query) (next run) g h r second)
-
-    pub query-given : (kept : Query) → IsOutcomeBy (λ file kept. AreAlike kept (query_at file query)) g h (Ok kept) → (outcome : Result (List ℕ) Refusal)
-        → IsWorkOf (IsGivenAlike given told run kept) outcome → IsOutcomeOf Asks f h outcome
-    query-given kept second outcome work =
-        after_run program log (λ file. query_at file query) next run f g h first reads after outcome
-        (kept-given Alike (λ file. query_at file query) (next run) g h kept second outcome work)
+    -- the work on what is kept is that on all that is alike
+    pub kept-gives : (kept : A) (result : Result Given Refusal) → IsOutcomeBy IsKept g h (Ok kept) → Reads more true g h
+        → IsWorkOf (λ answer. (q : A) → alike kept q → next run q ≡ answer) (seen_by given_text result) → IfOk result (λ given. given_target given ≡ target) → Told f h result
+    kept-gives kept result second after work goes = record {
+      answer = after_run after (seen_by given_text result)
+          (outcome_by-answer IsKept (λ answer. (q : A) → alike kept q → next run q ≡ answer) IsNext kept g h
+          (λ file outcome h same. kept_alike alike kept (next run) outcome (read file) h same) second (seen_by given_text result) work);
+      goes = goes;
+      reads = reads-less (is_ok result) (reads-then reads after);
+    }
 
 -- ---- work over a run
 
 fitting : (run : Run) (job : Job) → IsChecked run.program.bytes run.program.image run.log job → fitting_start run.program run.log ≡ Ok job.start
 fitting run job checked = fitting_start-ok run.program run.log job.start checked.digest checked.start checked.agrees
-
--- the log fits, but there are too many epochs
-pub cutting-stops : (told : Option ℕ) (run : Run) (job : Job) (r : Refusal) → IsChecked run.program.bytes run.program.image run.log job → IsWork (told_check told run.log) (Err r)
-    → IsWork (fits_and_is_cut told run) (Err r)
-cutting-stops told run job r checked =
-    IsOwedTo-map (by_reading (told_check told run.log ≡ Err r) ⊥) (by_reading (fits_and_is_cut told run ≡ Err r) ⊥) (λ p. p)
-    (λ e. and_then-ok (fitting_start run.program run.log) (λ start. told_check told run.log) job.start (fitting run job checked) ∙ e) (λ p. p) (λ p. p) r
 
 -- a text that is made of the run
 analysed-gives : (told : Option ℕ) (run : Run) (given : State → Log → List ℕ) (job : Job) (text : List ℕ) → IsChecked run.program.bytes run.program.image run.log job → told_check told run.log ≡ Ok tt
@@ -174,15 +168,11 @@ IsSame given = (q p : Query) (start : State) (log : Log) → Alike q p → given
 -- a log that doesn't fit, or too many epochs
 pub given-stops : (given : Query → State → Log → List ℕ) (told : Option ℕ) (run : Run) (kept : Query) (r : Refusal) → IsWork (fits_and_is_cut told run) (Err r)
     → IsWorkOf (IsGivenAlike given told run kept) (Err r)
-given-stops given told run kept r =
-    IsOwedTo-map (by_reading (fits_and_is_cut told run ≡ Err r) ⊥) (by_reading (IsGivenAlike given told run kept (Err r)) ⊥) (λ p. p)
-    (λ e q alike. analysed-stops told run (given q) r e) (λ p. p) (λ p. p) r
+given-stops given told run kept r = owed-map (fits_and_is_cut told run ≡ Err r) (IsGivenAlike given told run kept (Err r)) (λ e q alike. analysed-stops told run (given q) r e) r
 
 -- the same of a run that isn't cut
 fits-stops : (run : Run) (r : Refusal) → IsWork (fitting_start run.program run.log) (Err r) → IsWork (fits_and_is_cut None run) (Err r)
-fits-stops run r =
-    IsOwedTo-map (by_reading (fitting_start run.program run.log ≡ Err r) ⊥) (by_reading (fits_and_is_cut None run ≡ Err r) ⊥) (λ p. p)
-    (λ e. and_then-err (fitting_start run.program run.log) (λ start. told_check None run.log) r e) (λ p. p) (λ p. p) r
+fits-stops run r = work-stops (fitting_start run.program run.log) (λ start. told_check None run.log) r
 
 pub uncut-stops : (given : Query → State → Log → List ℕ) (run : Run) (kept : Query) (r : Refusal) → IsWork (fitting_start run.program run.log) (Err r)
     → IsWorkOf (IsGivenAlike given None run kept) (Err r)
@@ -222,8 +212,8 @@ same_reports n (k ∷ ks) (q ∷ qs) steps h =
 -- the rules differ
 pub rules-stop : (told : Option ℕ) (run : Run) (kept : List Query) (r : Refusal) → IsWork (rules_check kept) (Err r) → IsWorkOf (AreGivenAlike told run kept) (Err r)
 rules-stop told run kept r =
-    IsOwedTo-map (by_reading (rules_check kept ≡ Err r) ⊥) (by_reading (AreGivenAlike told run kept (Err r)) ⊥) (λ p. p)
-    (λ e qs alike. and_then-err (rules_check qs) (λ same. analysed_answer told run (over_trace (reports_of qs))) r (sym (same_check kept qs alike) ∙ e)) (λ p. p) (λ p. p) r
+    owed-map (rules_check kept ≡ Err r) (AreGivenAlike told run kept (Err r))
+    (λ e qs alike. and_then-err (rules_check qs) (λ same. analysed_answer told run (over_trace (reports_of qs))) r (sym (same_check kept qs alike) ∙ e)) r
 
 one_rule-check : (kept qs : List Query) → AskAlike kept qs → first_other_rule kept ≡ None → rules_check qs ≡ Ok tt
 one_rule-check kept qs alike e = sym (same_check kept qs alike) ∙ ap unless_other_rule e
@@ -232,8 +222,8 @@ one_rule-check kept qs alike e = sym (same_check kept qs alike) ∙ ap unless_ot
 pub reports-stop : (told : Option ℕ) (run : Run) (kept : List Query) (r : Refusal) → first_other_rule kept ≡ None → IsWork (fits_and_is_cut told run) (Err r)
     → IsWorkOf (AreGivenAlike told run kept) (Err r)
 reports-stop told run kept r one =
-    IsOwedTo-map (by_reading (fits_and_is_cut told run ≡ Err r) ⊥) (by_reading (AreGivenAlike told run kept (Err r)) ⊥) (λ p. p)
-    (λ e qs alike. and_then-ok (rules_check qs) (λ same. analysed_answer told run (over_trace (reports_of qs))) tt (one_rule-check kept qs alike one) ∙ analysed-stops told run (over_trace (reports_of qs)) r e) (λ p. p) (λ p. p) r
+    owed-map (fits_and_is_cut told run ≡ Err r) (AreGivenAlike told run kept (Err r))
+    (λ e qs alike. and_then-ok (rules_check qs) (λ same. analysed_answer told run (over_trace (reports_of qs))) tt (one_rule-check kept qs alike one) ∙ analysed-stops told run (over_trace (reports_of qs)) r e) r
 
 pub reports-give : (told : Option ℕ) (run : Run) (kept : List Query) (job : Job) (text : List ℕ) → first_other_rule kept ≡ None → IsChecked run.program.bytes run.program.image run.log job
     → told_check told run.log ≡ Ok tt → text ≡ reports_of kept (trace_of job) → AreGivenAlike told run kept (Ok text)

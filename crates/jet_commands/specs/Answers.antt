@@ -1,5 +1,5 @@
 -- What the files of a command come to: the text that it writes, or the refusal.
-use Rattle.std.specs.Prelude.{◌≡◌, ℕ, Bool, true, false, List, Option, None, unwrap_or, Result, Ok, Err}
+use Rattle.std.specs.Prelude.{◌≡◌, ℕ, List, Option, None, unwrap_or, Result, Ok, Err}
 use Rattle.outer_io.specs.Files.{Text}
 use Rattle.outer_io.specs.Tells.{Tells, Gains}
 use Rattle.isa.specs.Machine.{State}
@@ -77,14 +77,6 @@ format_text (Page name) = page_report
 abbrev pub format_target : Format → Target
 format_target (Listed listing) = ToOutput
 format_target (Page name) = ToFile name.now
-
--- a path is told
-abbrev pub tells_path : Format → Bool
-tells_path (Listed BySink) = false
-tells_path (Listed BySource) = false
-tells_path (Listed ByPath) = true
-tells_path (Listed ByRange) = false
-tells_path (Page name) = false
 
 -- where a source byte of a query could turn a run, as text
 abbrev pub decisions_by : Query → State → Log → List ℕ

@@ -1,5 +1,5 @@
-//! The analysis of a run, of a program and a log that were read, for one query and for several.
-ghost use Rattle.std.specs.Prelude.{◌≡◌, ◌≤◌, Ok, Err, Some, length, IfOk, IfErr, OnOk};
+//! The analysis of a run, of a program and a log that were read, for one query and for several; and its decisions.
+ghost use Rattle.std.specs.Prelude.{◌≡◌, ◌≤◌, Ok, Err, Some, None, length, IfOk, IfErr, OnOk};
 ghost use Rattle.replayer.specs.Checks.{IsChecked};
 ghost use Rattle.replayer.specs.Jobs.{trace_of};
 ghost use Rattle.report_model.specs.Rows.{rows};
@@ -10,28 +10,33 @@ ghost use Rattle.jet_model.specs.Answer.{told_check};
 ghost use Rattle.jet_commands.specs.Outcome.{IsWork, seen_by};
 ghost use Rattle.jet_commands.specs.Views.{run_of};
 ghost use Rattle.jet_commands.specs.Targets.{ToOutput};
-ghost use Rattle.jet_commands.specs.Answers.{IsWorkOf, AreGivenAlike, fits_and_is_cut};
+ghost use Rattle.jet_commands.specs.Answers.{IsWorkOf, IsGivenAlike, AreGivenAlike, fits_and_is_cut};
+ghost use Rattle.jet_commands.specs.Answers.{decisions_by, format_text, format_target};
 ghost use Rattle.jet_commands.specs.Obeying.{given_text, given_target};
 
 use crate::delivery::Given;
 use crate::opening::Run;
 use crate::parts::part_for;
+use crate::path::pair_told;
 use crate::pieces::Answer;
 use crate::reports::{own_parts, union_of};
 use crate::resources::{Resources, parallelism_of};
-use crate::tellings::fitted;
+use crate::tellings::{Format, fitted, told};
+use decision_find::check_and_decide;
 use epoch_engine::Engine;
 use jet_refusal::Refusal;
 use jet_words::Pipeline;
+use page_data::laws::alike_have_same_data;
 use path_find::{Pair, check_and_answer};
 use query_lang::Query;
 use replayer::Job;
 use run_query::check_and_query;
 use sink_collect::Report;
+use std::alloc::Global;
 
 /// A run whose log fits its program, and the rows of the query over it. The misfits of the log come first, and then
 /// `TooManyEpochs`, where a length is told.
-pub fn analysed_run<E: Engine>(
+fn analysed_run<E: Engine>(
     resources: &Resources<'_, E>,
     run: Run,
     query: &Query,
@@ -66,8 +71,8 @@ pub fn analysed_run<E: Engine>(
 }
 
 /// A run whose log fits its program, and the path of the pair that the query names. It gives up as [`analysed_run`] does.
-pub fn named_path<E: Engine>(
-    resources: &Resources<'_, E>,
+fn named_path(
+    alloc: Global,
     run: Run,
     query: &Query,
     pair: Pair,
@@ -83,14 +88,48 @@ pub fn named_path<E: Engine>(
     match part_for(&run.log, query, pipeline) {
         Ok(_) => {
             let Run { program, log } = run;
-            let found = check_and_answer(resources.alloc, program, log, query.rule(), pair)?;
+            let found = check_and_answer(alloc, program, log, query.rule(), pair)?;
             Ok(found)
         }
         Err(refusal) => {
-            let _fits = fitted(resources.alloc, run)?;
+            let _fits = fitted(alloc, run)?;
             Err(refusal)
         }
     }
+}
+
+/// What is told of the rows of a query over the run. It gives up as [`analysed_run`] does.
+pub fn analysed<'a, E: Engine>(
+    resources: &Resources<'_, E>,
+    run: Run,
+    query: &Query,
+    format: Format<'a>,
+    pipeline: Pipeline,
+) -> Result<Given<'a>, Refusal>
+    requires ready { E.ready resources.now.engine.now }
+    requires pipeline { IsPipeline pipeline }
+    ensures answer { IsWorkOf (IsGivenAlike (format_text format.entry) pipeline.epoch (run_of run) query.now)
+        (seen_by given_text result) }
+    ensures goes { IfOk result (λ given. given_target given ≡ format_target format.entry) }
+{
+    alike_have_same_data();
+    if let Some(pair) = pair_told(format, query) {
+        let (_job, text) = named_path(resources.alloc, run, query, pair, pipeline)?;
+        return Ok(Given::Told(Answer::Whole(text)));
+    }
+    let (job, report) = analysed_run(resources, run, query, pipeline)?;
+    let given = told(resources.alloc, &job, query, report, format)?;
+    Ok(given)
+}
+
+/// Where a source byte of a query could turn the run. It gives up as [`fitted`] does.
+pub fn decided<'a>(alloc: Global, run: Run, query: &Query) -> Result<Given<'a>, Refusal>
+    ensures answer { IsWorkOf (IsGivenAlike decisions_by None (run_of run) query.now) (seen_by given_text result) }
+    ensures goes { IfOk result (λ given. given_target given ≡ ToOutput) }
+{
+    let Run { program, log } = run;
+    let (_job, text) = check_and_decide(alloc, program, log, query)?;
+    Ok(Given::Told(Answer::Whole(text)))
 }
 
 /// The reports of several queries over the run, for all queries that these stand for. The rules are compared first; then

@@ -8,22 +8,18 @@ ghost use Rattle.jet_commands.specs.Targets.{ToOutput};
 ghost use Rattle.jet_commands.specs.Answers.{decisions_by, format_text, format_target, making_answer, making_target, named};
 ghost use Rattle.jet_commands.specs.Obeying.{Gives, IsGiven};
 
-use crate::analysis::{analysed_run, named_path, reports};
+use crate::analysis::{analysed, decided, reports};
 use crate::bench::bench;
 use crate::delivery::Given;
-use crate::opening::{Run, open_query, open_run};
-use crate::path::pair_told;
-use crate::pieces::Answer;
-use crate::queries::open_queries;
+use crate::opening::open_run;
+use crate::queries::{open_queries, open_query};
 use crate::recorded::{Limits, record};
 use crate::resources::Resources;
-use crate::tellings::{Format, Making, fitted, made, told};
-use decision_find::check_and_decide;
+use crate::tellings::{Format, Making, fitted, made};
 use epoch_engine::Engine;
 use jet_refusal::Refusal;
 use jet_words::{Command, Pipeline};
 use outer_io::{Clock, Store};
-use page_data::laws::alike_have_same_data;
 use std::alloc::Global;
 
 /// What is told of the rows of a query.
@@ -44,15 +40,8 @@ fn analysis<'a, E: Engine, S: Store>(
         result }
 {
     let run = open_run(resources.alloc, store, program, log)?;
-    let query = open_query(resources.alloc, store, query)?;
-    alike_have_same_data();
-    if let Some(pair) = pair_told(format, &query) {
-        let (_job, text) = named_path(resources, run, &query, pair, pipeline)?;
-        return Ok(Given::Told(Answer::Whole(text)));
-    }
-    let (job, report) = analysed_run(resources, run, &query, pipeline)?;
-    let given = told(resources.alloc, &job, &query, report, format)?;
-    Ok(given)
+    let query = open_query(resources.alloc, store, None, query)?;
+    analysed(resources, run, &query, format, pipeline)
 }
 
 /// Where a source byte of a query could turn a run.
@@ -68,10 +57,8 @@ fn decisions<'a, S: Store>(
         (program.now ∷ log.now ∷ query.now ∷ []) ToOutput (S.shown store.old) (S.shown store.new) result }
 {
     let run = open_run(alloc, store, program, log)?;
-    let query = open_query(alloc, store, query)?;
-    let Run { program, log } = run;
-    let (_job, text) = check_and_decide(alloc, program, log, &query)?;
-    Ok(Given::Told(Answer::Whole(text)))
+    let query = open_query(alloc, store, None, query)?;
+    decided(alloc, run, &query)
 }
 
 /// The reports of several queries.

@@ -26,7 +26,7 @@ use no_memory::NoMemory;
 use order_gateway::{MOST_STEPS, Numbers, Recording, query, recorded, text_of};
 use query_lang::Query;
 use replayer::Job;
-use run_query::{Crossed, QueryAnswer};
+use run_query::Crossed;
 use sha2::{Digest, Sha256};
 use sink_collect::text;
 use std::alloc::Global;
@@ -70,11 +70,7 @@ fn numbers<E: Engine>(
     ensures { IfOk result (λ numbers. numbers ≡ numbers_of query.now cuts (trace_of job.now)) }
 {
     let epochs = u64::from(cuts.count());
-    let QueryAnswer {
-        report,
-        crossed,
-        events,
-    } = run_query::query(
+    let found = run_query::query(
         resources.engine,
         resources.alloc,
         job,
@@ -82,15 +78,15 @@ fn numbers<E: Engine>(
         cuts,
         parallelism_of(pipeline),
     )?;
-    let text = text(resources.alloc, &report)?;
+    let text = text(resources.alloc, &found.report)?;
     Ok(Numbers {
         steps: job.steps(),
         epochs,
-        sinks: report.lines(),
-        pairs: report.pairs(),
-        asked: count_asked(&crossed),
+        sinks: found.report.lines(),
+        pairs: found.report.pairs(),
+        asked: count_asked(&found.crossed),
         digest: Sha256::digest(&text),
-        events,
+        events: found.events,
     })
 }
 

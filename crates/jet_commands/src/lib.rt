@@ -17,7 +17,6 @@ mod bench;
 mod command;
 mod delivery;
 mod ending;
-mod influence;
 mod inputs;
 mod mark;
 mod opening;

@@ -1,15 +1,14 @@
-//! Programs, logs and queries, read from their files.
+//! Programs and logs, read from their files.
 ghost use Rattle.std.specs.Prelude.{◌≡◌, ◌≤◌, ◌^◌, ◌∷◌, [], true, length, is_ok, IfOk};
 ghost use Rattle.outer_io.specs.Reads.{Reads};
-ghost use Rattle.jet_model.specs.Contents.{log_in, program_at, log_at, query_at, run_at};
-ghost use Rattle.jet_commands.specs.Outcome.{IsOutcomeOf, IsOutcomeBy, IsWork, AreAlike, seen_by};
+ghost use Rattle.jet_model.specs.Contents.{log_in, program_at, log_at, run_at};
+ghost use Rattle.jet_commands.specs.Outcome.{IsOutcomeOf, IsWork, seen_by};
 ghost use Rattle.jet_commands.specs.Views.{program_of, run_of};
 
 use crate::reading::read_file;
 use elf_image::Program;
 use jet_refusal::Refusal;
 use outer_io::Store;
-use query_lang::{Query, parse};
 use replay_log::{Log, read_log};
 use std::alloc::Global;
 
@@ -64,15 +63,4 @@ pub fn open_run<S: Store>(
     let program = open_program(alloc, store, program)?;
     let log = open_log(alloc, store, log)?;
     Ok(Run { program, log })
-}
-
-/// Reads a query. It gives up as `read_file` does, or with `Query`, the first fault of a text that is none.
-pub fn open_query<S: Store>(alloc: Global, store: &mut S, name: &str) -> Result<Query, Refusal>
-    ensures outcome { IsOutcomeBy (λ file kept. AreAlike kept (query_at file name.now)) (S.shown store.old)
-        (S.shown store.new) result }
-    ensures reads { Reads (name.now ∷ []) true (S.shown store.old) (S.shown store.new) }
-{
-    let bytes = read_file(alloc, store, name)?;
-    let query = parse(alloc, &bytes)?;
-    Ok(query)
 }

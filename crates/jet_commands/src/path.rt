@@ -7,7 +7,7 @@ ghost use Rattle.replayer.specs.Jobs.{trace_of};
 ghost use Rattle.path_find.specs.Sinks.{IsLocated};
 ghost use Rattle.path_find.specs.Answer.{pair_report, path_report};
 ghost use Rattle.jet_commands.specs.Targets.{ToOutput};
-ghost use Rattle.jet_commands.specs.Answers.{format_text, format_target, tells_path};
+ghost use Rattle.jet_commands.specs.Answers.{format_text, format_target};
 
 use crate::tellings::Format;
 use jet_words::Listing;
@@ -44,22 +44,11 @@ pub fn pair_told(format: Format<'_>, query: &Query) -> Option<Pair>
         ≡ pair_report (record { start = start; log = log }) query.now.rule (Some pair)) }
 {
     named_pairs_are_told();
-    if is_path(format) {
-        named_pair(query)
-    } else {
-        None
-    }
-}
-
-/// Whether a path is told.
-fn is_path(format: Format<'_>) -> bool
-    ensures { result ≡ tells_path format.entry }
-{
     match format {
-        Format::Listed(Listing::BySink) => false,
-        Format::Listed(Listing::BySource) => false,
-        Format::Listed(Listing::ByPath) => true,
-        Format::Listed(Listing::ByRange) => false,
-        Format::Page(_) => false,
+        Format::Listed(listing) => match listing {
+            Listing::ByPath => named_pair(query),
+            Listing::BySink | Listing::BySource | Listing::ByRange => None,
+        },
+        Format::Page(_) => None,
     }
 }

@@ -1,9 +1,9 @@
-//! Several queries, read from their files.
+//! Queries, read from their files.
 ghost use Rattle.std.specs.Prelude.{◌≡◌, ◌≤◌, ◌∷◌, [], true, length, map, is_ok, IfOk};
 ghost use Rattle.outer_io.specs.Reads.{Reads};
-ghost use Rattle.jet_model.specs.Contents.{numbered_query_at, queries_at};
+ghost use Rattle.jet_model.specs.Contents.{queries_at};
 ghost use Rattle.jet_commands.specs.Outcome.{IsOutcomeBy, AreAlike, AreAllAlike, seen_by, queries_of};
-ghost use Rattle.jet_commands.specs.Faults.{numbered_query_refusal};
+ghost use Rattle.jet_commands.specs.Faults.{query_refusal, query_by};
 
 use crate::reading::read_file;
 use jet_refusal::Refusal;
@@ -12,30 +12,29 @@ use outer_io::Store;
 use query_lang::{FaultInQuery, Query, QueryFault, parse};
 use std::alloc::Global;
 
-/// Why the text of this number is no query.
-fn of_query(number: u32, fault: QueryFault) -> Refusal
-    ensures { result ≡ numbered_query_refusal number fault }
+/// Why a text is no query: the only one, or the one of several that has this number.
+fn of_query(number: Option<u32>, fault: QueryFault) -> Refusal
+    ensures { result ≡ query_refusal fault number }
 {
-    match fault {
-        Fault::At(FaultInQuery { line, kind }) => Refusal::QueryOf {
-            file: number,
-            line,
-            kind,
-        },
-        Fault::NoMemory(no_memory) => Refusal::NoMemory(no_memory),
+    match (fault, number) {
+        (Fault::At(FaultInQuery { line, kind }), None) => Refusal::Query { line, kind },
+        (Fault::At(FaultInQuery { line, kind }), Some(file)) => {
+            Refusal::QueryOf { file, line, kind }
+        }
+        (Fault::NoMemory(no_memory), _) => Refusal::NoMemory(no_memory),
     }
 }
 
-/// Reads the query of this number. It gives up as `read_file` does, or with `QueryOf`, the first fault of a text that is
-/// none.
-fn open_numbered<S: Store>(
+/// Reads a query: the only one, or the one of several that has this number. It gives up as `read_file` does, or with
+/// `Query` or `QueryOf`, the first fault of a text that is none.
+pub fn open_query<S: Store>(
     alloc: Global,
     store: &mut S,
-    number: u32,
+    number: Option<u32>,
     name: &str,
 ) -> Result<Query, Refusal>
-    ensures outcome { IsOutcomeBy (λ file kept. AreAlike kept (numbered_query_at file number name.now))
-        (S.shown store.old) (S.shown store.new) result }
+    ensures outcome { IsOutcomeBy (λ file kept. AreAlike kept (query_by number file name.now)) (S.shown store.old)
+        (S.shown store.new) result }
     ensures reads { Reads (name.now ∷ []) true (S.shown store.old) (S.shown store.new) }
 {
     let bytes = read_file(alloc, store, name)?;
@@ -62,7 +61,7 @@ pub fn open_queries<S: Store>(
     let mut number = 0;
     for name in names {
         number += 1;
-        let query = open_numbered(alloc, store, number, name)?;
+        let query = open_query(alloc, store, Some(number), name)?;
         queries.push(query)?;
     }
     Ok(queries)

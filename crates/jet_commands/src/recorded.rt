@@ -50,20 +50,15 @@ fn log_file<'a, K: Clock>(
     ensures goes { IfOk result (λ given. given_target given ≡ ToFile name.entry.now) }
     ensures unasked { IfErr result (IsUnasked (K.answers clock.old) (K.answers clock.new)) }
 {
-    let Limits {
-        pages,
-        piece,
-        steps,
-    } = limits;
     let log = capture(
         alloc,
         &program.bytes,
         &program.image,
-        pages,
+        limits.pages,
         inputs,
         clock,
-        piece,
-        steps,
+        limits.piece,
+        limits.steps,
     )?;
     let content = write_log(alloc, &log)?;
     Ok(Given::Made { name, content })

@@ -4,6 +4,7 @@ ghost use Rattle.std.specs.Prelude.{◌≡◌, Err, IfOk, IfErr};
 ghost use Rattle.replayer.specs.Checks.{IsChecked};
 ghost use Rattle.replayer.specs.Jobs.{trace_of};
 ghost use Rattle.report_model.specs.Rows.{rows};
+ghost use Rattle.report_model.specs.Influence.{influence};
 ghost use Rattle.jet_model.specs.Answer.{fitting_start, limited_text};
 ghost use Rattle.jet_commands.specs.Outcome.{IsWork, seen_by, bytes_of};
 ghost use Rattle.jet_commands.specs.Views.{run_of};
@@ -11,7 +12,6 @@ ghost use Rattle.jet_commands.specs.Answers.{format_text, format_target, made_by
 ghost use Rattle.jet_commands.specs.Obeying.{given_text, given_target};
 
 use crate::delivery::Given;
-use crate::influence::influence_of;
 use crate::opening::Run;
 use crate::path::path_text;
 use crate::pieces::Answer;
@@ -21,13 +21,13 @@ use elf_image::Program;
 use jet_refusal::Refusal;
 use jet_words::{Listing, Product};
 use no_memory::NoMemory;
-use page_data::page;
+use page_data::{page, sources_of};
 use query_lang::Query;
 use range_report::shown;
 use replay_log::write_log;
 use replayer::Job;
 use run_output::{calls_text, input_on, output_on, stacks_text, summary_text};
-use sink_collect::Report;
+use sink_collect::{Influence, Report, turn_round};
 use std::alloc::Global;
 
 /// What is told of the rows of a query.
@@ -61,6 +61,20 @@ pub fn fitted(alloc: Global, run: Run) -> Result<Job, Refusal>
     let Program { bytes, image } = program;
     let job = Job::check(alloc, &bytes, image, log)?;
     Ok(job)
+}
+
+/// The influence of the source bytes that the run received and a query chooses, by the query's report.
+fn influence_of(
+    alloc: Global,
+    job: &Job,
+    query: &Query,
+    report: &Report,
+) -> Result<Influence, NoMemory>
+    requires { report.now ≡ rows query.now (trace_of job.now) }
+    ensures { IfOk result (λ reaches. reaches ≡ influence query.now (trace_of job.now)) }
+{
+    let sources = sources_of(alloc, job, query)?;
+    turn_round(alloc, report, &sources)
 }
 
 /// What is told of the rows of a query. It gives up with NoMemory alone.

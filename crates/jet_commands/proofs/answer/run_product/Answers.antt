@@ -1,5 +1,4 @@
 use Rattle.std.proofs.Common.{Err}
-use Rattle.std.proofs.lemmas.Result.{err_from_is_err_and}
 use Rattle.outer_io.proofs.ReadsLemmas.{reads-less}
 use Rattle.jet_model.specs.Contents.{Contents, run_at}
 use Rattle.jet_model.specs.Answer.{fitting_start}
@@ -7,6 +6,7 @@ use Rattle.jet_commands.specs.Outcome.{seen_by}
 use Rattle.jet_commands.specs.Views.{run_of}
 use Rattle.jet_commands.specs.Answers.{making_answer}
 use Rattle.jet_commands.specs.Obeying.{given_text}
+use Rattle.jet_commands.proofs.Giving.{passes}
 use Rattle.jet_commands.proofs.Composing.{outcome_of-stops, outcome_of-work, work-stops}
 use Rattle.jet_commands.proofs.Working.{making-gives}
 use Rattle.jet_commands.proofs.answer.run_product.Goals as goal
@@ -14,24 +14,17 @@ use Rattle.jet_commands.proofs.answer.run_product.Goals as goal
 pub returns-in_err-run : goal.returns-in_err-run
 returns-in_err-run g c =
     let a = c.args in
-    let p = err_from_is_err_and c.from_residual.result c.from_residual.ensures.1 in
-    rw (p.1, p.2) (record {
-      answer = outcome_of-stops (λ (file : Contents). run_at file a.program.now a.log.now) (λ run file. making_answer a.making run) (g.S.Store.shown a.store.now) (g.S.Store.shown c.open_run.new.store) c.in_err-run.field-0.0 c.in_err-run.ensures.outcome;
-      goes = tt;
-      reads = c.in_err-run.ensures.reads;
-    })
+    passes c.from_residual.result _ c.from_residual.ensures.1
+    (outcome_of-stops (λ (file : Contents). run_at file a.program.now a.log.now) (λ run file. making_answer a.making run) (g.S.Store.shown a.store.now) (g.S.Store.shown c.open_run.new.store) _ c.in_err-run.ensures.outcome)
+    c.in_err-run.ensures.reads
 
 pub returns-in_err-job : goal.returns-in_err-job
 returns-in_err-job g c =
     let a = c.args in
     let run = run_of c.in_ok-run.run' in
-    let p = err_from_is_err_and c.from_residual-in_err-job.result c.from_residual-in_err-job.ensures.1 in
-    rw (p.1, p.2) (record {
-      answer = outcome_of-work (λ (file : Contents). run_at file a.program.now a.log.now) (making_answer a.making) run (g.S.Store.shown a.store.now) (g.S.Store.shown c.open_run.new.store) c.in_ok-run.ensures.outcome (Err c.in_err-job.field-0.0)
-          (work-stops (fitting_start run.program run.log) _ c.in_err-job.field-0.0 c.in_err-job.ensures.err);
-      goes = tt;
-      reads = reads-less _ c.in_ok-run.ensures.reads;
-    })
+    passes c.from_residual-in_err-job.result _ c.from_residual-in_err-job.ensures.1
+    (outcome_of-work (λ (file : Contents). run_at file a.program.now a.log.now) (making_answer a.making) run (g.S.Store.shown a.store.now) (g.S.Store.shown c.open_run.new.store) c.in_ok-run.ensures.outcome (Err c.in_err-job.field-0.0)
+    (work-stops (fitting_start run.program run.log) _ c.in_err-job.field-0.0 c.in_err-job.ensures.err)) (reads-less _ c.in_ok-run.ensures.reads)
 
 pub returns : goal.returns
 returns g c =

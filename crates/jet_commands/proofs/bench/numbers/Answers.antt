@@ -15,12 +15,12 @@ use Rattle.jet_commands.proofs.bench.numbers.Goals as goal
 pub returns : goal.returns
 returns g c =
     let job = c.args.job.now in
-    let found = c.in_ok-report.ensures.report in
+    let found = c.in_ok-found.ensures.report in
     numbers-are c.args.query.now c.args.cuts (trace_of job) _
     (c.steps.ensures ∙ sym (length-steps_from (steps job.log) (start job.start job.log)))
     (c.from-epochs.ensures ∙ c.count.ensures.is)
     (c.lines.ensures ∙ ap (λ (rs : List Row). length rs) found)
     (c.pairs.ensures ∙ ap (λ (rs : List Row). capped (pairs rs)) found)
-    (c.count_asked.ensures ∙ ap asked_in_all (c.deref.ensures.value ∙ c.in_ok-report.ensures.crossings) ∙ asked-in_all c.args.query.now (trace_of job) c.args.cuts)
+    (c.count_asked.ensures ∙ ap asked_in_all (c.deref.ensures.value ∙ c.in_ok-found.ensures.crossings) ∙ asked-in_all c.args.query.now (trace_of job) c.args.cuts)
     (c.digest.ensures ∙ ap sha256 (c.in_ok-text.ensures ∙ ap report_text found))
-    c.in_ok-report.ensures.events
+    c.in_ok-found.ensures.events

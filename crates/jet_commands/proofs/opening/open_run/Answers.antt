@@ -17,39 +17,38 @@ log_with program log = Ok (record { program = program; log = log })
 abbrev run_with : List ℕ → Program → Contents → Result Run Refusal
 run_with name program file = and_then (log_at file name) (log_with program)
 
-pub returns-in_err-program-clause-outcome : goal.returns-in_err-program-clause-outcome
-returns-in_err-program-clause-outcome g c =
+pub returns-in_err-program : goal.returns-in_err-program
+returns-in_err-program g c =
     let p = err_from_is_err_and c.from_residual.result c.from_residual.ensures.1 in
-    rw (p.1, p.2)
-    (outcome_of-stops (λ file. program_at file c.args.program.now) (run_with c.args.log.now) (g.S.Store.shown c.args.store.now) (g.S.Store.shown c.open_program.new.store) _ c.in_err-program.ensures.outcome)
+    rw (p.1, p.2) (record {
+      outcome = outcome_of-stops (λ file. program_at file c.args.program.now) (run_with c.args.log.now) (g.S.Store.shown c.args.store.now) (g.S.Store.shown c.open_program.new.store) _ c.in_err-program.ensures.outcome;
+      short = tt;
+      reads = reads-stops (c.args.log.now ∷ []) c.in_err-program.ensures.reads;
+    })
 
-pub returns-in_err-program-clause-reads : goal.returns-in_err-program-clause-reads
-returns-in_err-program-clause-reads g c =
-    let p = err_from_is_err_and c.from_residual.result c.from_residual.ensures.1 in
-    rw p.1 (reads-stops (c.args.log.now ∷ []) c.in_err-program.ensures.reads)
-
-pub returns-in_err-log-clause-outcome : goal.returns-in_err-log-clause-outcome
-returns-in_err-log-clause-outcome g c =
+pub returns-in_err-log : goal.returns-in_err-log
+returns-in_err-log g c =
     let between = g.S.Store.shown c.open_program.new.store in
     let after = g.S.Store.shown c.open_log.new.store in
     let log = c.args.log.now in
     let program = program_of c.in_ok-program.program in
     let p = err_from_is_err_and c.from_residual-in_err-log.result c.from_residual-in_err-log.ensures.1 in
-    rw (p.1, p.2)
-    (outcome_of-then (λ file. program_at file c.args.program.now) (run_with log) program (g.S.Store.shown c.args.store.now) between after c.in_ok-program.ensures.outcome c.in_ok-program.ensures.reads c.in_err-log.ensures.reads (Err c.in_err-log.field-0.0)
-    (outcome_of-stops (λ file. log_at file log) (λ l file. log_with program l) between after _ c.in_err-log.ensures.outcome))
+    rw (p.1, p.2) (record {
+      outcome = outcome_of-then (λ file. program_at file c.args.program.now) (run_with log) program (g.S.Store.shown c.args.store.now) between after c.in_ok-program.ensures.outcome c.in_ok-program.ensures.reads c.in_err-log.ensures.reads
+          (Err c.in_err-log.field-0.0) (outcome_of-stops (λ file. log_at file log) (λ l file. log_with program l) between after _ c.in_err-log.ensures.outcome);
+      short = tt;
+      reads = reads-less _ (reads-then c.in_ok-program.ensures.reads c.in_err-log.ensures.reads);
+    })
 
-pub returns-in_err-log-clause-reads : goal.returns-in_err-log-clause-reads
-returns-in_err-log-clause-reads g c = reads-less _ (reads-then c.in_ok-program.ensures.reads c.in_err-log.ensures.reads)
-
-pub returns-clause-outcome : goal.returns-clause-outcome
-returns-clause-outcome g c =
+pub returns : goal.returns
+returns g c =
     let between = g.S.Store.shown c.open_program.new.store in
     let after = g.S.Store.shown c.open_log.new.store in
     let log = c.args.log.now in
     let program = program_of c.in_ok-program.program in
-    outcome_of-then (λ file. program_at file c.args.program.now) (run_with log) program (g.S.Store.shown c.args.store.now) between after c.in_ok-program.ensures.outcome c.in_ok-program.ensures.reads c.in_ok-log.ensures.reads (log_with program c.in_ok-log.log)
-    (outcome_of-work (λ file. log_at file log) (log_with program) c.in_ok-log.log between after c.in_ok-log.ensures.outcome (log_with program c.in_ok-log.log) refl)
-
-pub returns-clause-reads : goal.returns-clause-reads
-returns-clause-reads g c = reads-then c.in_ok-program.ensures.reads c.in_ok-log.ensures.reads
+    record {
+      outcome = outcome_of-then (λ file. program_at file c.args.program.now) (run_with log) program (g.S.Store.shown c.args.store.now) between after c.in_ok-program.ensures.outcome c.in_ok-program.ensures.reads c.in_ok-log.ensures.reads
+          (log_with program c.in_ok-log.log) (outcome_of-work (λ file. log_at file log) (log_with program) c.in_ok-log.log between after c.in_ok-log.ensures.outcome (log_with program c.in_ok-log.log) refl);
+      short = c.in_ok-program.ensures.short;
+      reads = reads-then c.in_ok-program.ensures.reads c.in_ok-log.ensures.reads;
+    }

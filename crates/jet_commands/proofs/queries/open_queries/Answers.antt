@@ -1,4 +1,4 @@
-use Rattle.std.proofs.Common.{arith, ◌≡◌, ◌+◌, ◌∷◌, ◌++◌, [], ap, sym, refl, subst, ℕ, List, length, true, Ok, Bor}
+use Rattle.std.proofs.Common.{arith, ◌≡◌, ◌+◌, ◌∷◌, ◌++◌, [], ap, sym, refl, subst, ℕ, List, length, take, true, Ok, Bor}
 use Rattle.std.proofs.lemmas.List.{length_push, take_all}
 use Rattle.std.proofs.lemmas.Result.{err_from_is_err_and}
 use Rattle.report_model.specs.Query.{Query}
@@ -7,7 +7,7 @@ use Rattle.outer_io.proofs.TellsLemmas.{tells-same}
 use Rattle.jet_model.specs.Contents.{queries_at}
 use Rattle.jet_commands.specs.Outcome.{HeldBefore, IsOutcomeBy, AreAllAlike}
 use Rattle.outer_io.proofs.ReadsLemmas.{reads-none}
-use Rattle.jet_commands.proofs.Several.{texts, queries_more, queries_stop, reads_more, reads_some}
+use Rattle.jet_commands.proofs.Several.{texts, queries_in_order, one_more, one_refused, reads_more, reads_some}
 use Rattle.jet_commands.proofs.queries.open_queries.Goals as goal
 
 pub loop-name-init : goal.loop-name-init
@@ -29,7 +29,7 @@ loop-name-preserved g c =
     let index : ℕ = c.loop-name.name-index in
     let before = g.S.Store.shown c.args.store.now in
     let between = g.S.Store.shown c.loop-name.store in
-    let after = g.S.Store.shown c.open_numbered.new.store in
+    let after = g.S.Store.shown c.open_query.new.store in
     let queries = c.loop-name.queries.items in
     let more = c.push.new.self.items in
     let query = c.in_ok-query.query in
@@ -37,48 +37,48 @@ loop-name-preserved g c =
     let number : c.loop-name.number + 1 ≡ index + 1 = omega (arith, i.number) in
     let pushed : more ≡ queries ++ query ∷ [] = c.in_ok-push.ensures.items in
     record {
-      outcome = queries_more names index (c.loop-name.number + 1) _ queries more query before between after c.loop-name-test.true number pushed i.outcome i.reads c.in_ok-query.ensures.outcome;
+      outcome = one_more queries_in_order names index (c.loop-name.number + 1) _ queries before between after c.loop-name-test.true number i.outcome i.reads query more pushed c.in_ok-query.ensures.outcome;
       many = omega (arith, ap length pushed, length_push queries query, i.many);
       number = number;
-      reads = reads_more names index _ before between after c.loop-name-test.true i.reads c.open_numbered.ensures.reads;
+      reads = reads_more names index _ before between after c.loop-name-test.true i.reads c.open_query.ensures.reads;
     }
 
--- ---- a file was refused
-
-pub returns-in_err-query-clause-outcome : goal.returns-in_err-query-clause-outcome
-returns-in_err-query-clause-outcome g c =
+-- a file was refused
+pub returns-in_err-query : goal.returns-in_err-query
+returns-in_err-query g c =
+    let names = c.args.names.now in
+    let index : ℕ = c.loop-name.name-index in
     let i = c.loop-name.invariant in
+    let before = g.S.Store.shown c.args.store.now in
+    let between = g.S.Store.shown c.loop-name.store in
+    let after = g.S.Store.shown c.open_query.new.store in
+    let number : c.loop-name.number + 1 ≡ index + 1 = omega (arith, i.number) in
     let p = err_from_is_err_and c.from_residual.result c.from_residual.ensures.1 in
-    rw (p.1, p.2) (queries_stop c.args.names.now c.loop-name.name-index (c.loop-name.number + 1) _ c.loop-name.queries.items (g.S.Store.shown c.args.store.now) (g.S.Store.shown c.loop-name.store) (g.S.Store.shown c.open_numbered.new.store) _ c.loop-name-test.true (omega (arith, i.number)) i.outcome i.reads c.in_err-query.ensures.reads c.in_err-query.ensures.outcome)
+    rw (p.1, p.2) (record {
+      outcome = one_refused queries_in_order names index (c.loop-name.number + 1) _ c.loop-name.queries.items before between after c.loop-name-test.true number i.outcome i.reads _ c.in_err-query.ensures.reads c.in_err-query.ensures.outcome;
+      many = tt;
+      reads = reads_some names index _ before between after c.loop-name-test.true i.reads c.in_err-query.ensures.reads;
+    })
 
-pub returns-in_err-query-clause-reads : goal.returns-in_err-query-clause-reads
-returns-in_err-query-clause-reads g c =
-    let p = err_from_is_err_and c.from_residual.result c.from_residual.ensures.1 in
-    rw p.1 (reads_some c.args.names.now c.loop-name.name-index _ _ (g.S.Store.shown c.loop-name.store) _ c.loop-name-test.true c.loop-name.invariant.reads c.in_err-query.ensures.reads)
-
--- ---- out of memory
-
-pub returns-in_err-push-clause-outcome : goal.returns-in_err-push-clause-outcome
-returns-in_err-push-clause-outcome g c =
+-- out of memory
+pub returns-in_err-push : goal.returns-in_err-push
+returns-in_err-push g c =
     let p = err_from_is_err_and c.from_residual-in_err-push.result c.from_residual-in_err-push.ensures.1 in
-    rw (p.1, p.2.is) tt
+    rw (p.1, p.2.is) (record {
+      outcome = tt;
+      many = tt;
+      reads = reads_some c.args.names.now c.loop-name.name-index _ _ (g.S.Store.shown c.loop-name.store) _ c.loop-name-test.true c.loop-name.invariant.reads c.in_ok-query.ensures.reads;
+    })
 
-pub returns-in_err-push-clause-reads : goal.returns-in_err-push-clause-reads
-returns-in_err-push-clause-reads g c =
-    let p = err_from_is_err_and c.from_residual-in_err-push.result c.from_residual-in_err-push.ensures.1 in
-    rw p.1 (reads_some c.args.names.now c.loop-name.name-index _ _ (g.S.Store.shown c.loop-name.store) _ c.loop-name-test.true c.loop-name.invariant.reads c.in_ok-query.ensures.reads)
-
--- ---- all were read
-
-pub returns-clause-outcome : goal.returns-clause-outcome
-returns-clause-outcome g c =
-    subst (λ (w : List (Bor (List ℕ))). IsOutcomeBy (λ file kept. AreAllAlike kept (queries_at file (texts w))) (g.S.Store.shown c.args.store.now) (g.S.Store.shown c.loop-name.store) (Ok c.loop-name.queries.items))
-    (take_all c.loop-name.name-index c.args.names.now c.loop-name-test.false) c.loop-name.invariant.outcome
-
-pub returns-clause-many : goal.returns-clause-many
-returns-clause-many g c = omega (arith, c.loop-name.invariant.many, c.loop-name-test.false, c.loop-name.auto.name-index-end)
-
-pub returns-clause-reads : goal.returns-clause-reads
-returns-clause-reads g c =
-    subst (λ (w : List (Bor (List ℕ))). Reads (texts w) true (g.S.Store.shown c.args.store.now) (g.S.Store.shown c.loop-name.store))
-    (take_all c.loop-name.name-index c.args.names.now c.loop-name-test.false) c.loop-name.invariant.reads
+-- all were read
+pub returns : goal.returns
+returns g c =
+    let before = g.S.Store.shown c.args.store.now in
+    let now = g.S.Store.shown c.loop-name.store in
+    let i = c.loop-name.invariant in
+    let all : take c.loop-name.name-index c.args.names.now ≡ c.args.names.now = take_all c.loop-name.name-index c.args.names.now c.loop-name-test.false in
+    record {
+      outcome = subst (λ (w : List (Bor (List ℕ))). IsOutcomeBy (λ file kept. AreAllAlike kept (queries_at file (texts w))) before now (Ok c.loop-name.queries.items)) all i.outcome;
+      many = omega (arith, i.many, c.loop-name-test.false, c.loop-name.auto.name-index-end);
+      reads = subst (λ (w : List (Bor (List ℕ))). Reads (texts w) true before now) all i.reads;
+    }

@@ -23,27 +23,21 @@ returns-clause-answer g c =
     let captured = subst (λ (bytes : List ℕ). IsCaptured (captured_setting bytes a.limits.pages a.inputs.now a.limits.piece a.limits.steps) heard after c.in_ok-log.log) c.deref.ensures.value c.in_ok-log.ensures.captured in
     captured-text source limits heard after c.args.program.now.loads c.in_ok-log.log _ captured c.in_ok-log.ensures.small c.in_ok-content.ensures
 
-pub returns-in_err-log-clause-answer : goal.returns-in_err-log-clause-answer
-returns-in_err-log-clause-answer g c =
+pub returns-in_err-log : goal.returns-in_err-log
+returns-in_err-log g c =
     let a = c.args in
     let source : Source = record { program = program_of a.program.now; inputs = contents a.inputs.now } in
     let limits : Limits = limits_of a.limits.pages a.limits.piece a.limits.steps in
     let heard = g.K.Clock.answers a.clock.now in
     let after = g.K.Clock.answers c.capture.new.clock in
-    let cause = subst (λ (bytes : List ℕ). IsCausedBy (IsCause (captured_setting bytes a.limits.pages a.inputs.now a.limits.piece a.limits.steps) a.program.now.image heard after) c.in_err-log.field-0.0) c.deref.ensures.value c.in_err-log.ensures.cause in
+    let fault = c.in_err-log.field-0.0 in
+    let cause = subst (λ (bytes : List ℕ). IsCausedBy (IsCause (captured_setting bytes a.limits.pages a.inputs.now a.limits.piece a.limits.steps) a.program.now.image heard after) fault) c.deref.ensures.value c.in_err-log.ensures.cause in
     let p = err_from_is_err_and c.from_residual.result c.from_residual.ensures.1 in
-    rw p.1 (not_captured source limits heard after c.args.program.now.loads c.in_err-log.field-0.0 _ cause p.2)
-
-pub returns-in_err-log-clause-unasked : goal.returns-in_err-log-clause-unasked
-returns-in_err-log-clause-unasked g c =
-    let a = c.args in
-    let source : Source = record { program = program_of a.program.now; inputs = contents a.inputs.now } in
-    let limits : Limits = limits_of a.limits.pages a.limits.piece a.limits.steps in
-    let heard = g.K.Clock.answers a.clock.now in
-    let after = g.K.Clock.answers c.capture.new.clock in
-    let cause = subst (λ (bytes : List ℕ). IsCausedBy (IsCause (captured_setting bytes a.limits.pages a.inputs.now a.limits.piece a.limits.steps) a.program.now.image heard after) c.in_err-log.field-0.0) c.deref.ensures.value c.in_err-log.ensures.cause in
-    let p = err_from_is_err_and c.from_residual.result c.from_residual.ensures.1 in
-    rw p.1 (not_read source limits heard after c.args.program.now.loads c.in_err-log.field-0.0 _ cause p.2)
+    rw p.1 (record {
+      answer = not_captured source limits heard after c.args.program.now.loads fault _ cause p.2;
+      goes = tt;
+      unasked = not_read source limits heard after c.args.program.now.loads fault _ cause p.2;
+    })
 
 pub returns-in_err-content-clause-unasked : goal.returns-in_err-content-clause-unasked
 returns-in_err-content-clause-unasked g c =
