@@ -27,13 +27,6 @@ held-then one two all f g h step found keeps more =
     tells-then f g h (λ x y. HeldBefore one x y × KeepsFiles x y) (HeldBefore two) (HeldBefore all)
     (λ x y z r q. record { held = step x.file r.0.held (subst two r.1.file q.held) }) (tells-both f g (HeldBefore one) KeepsFiles found keeps) more
 
--- what a call finds in the files that it leaves, it finds in those that were
-pub held-kept : (fact : Contents → Type 0) (R : Files → Files → Type 0) (f g : Option Files)
-    → ((x y : Files) → R x y → fact y.file) → Tells f g R → Tells f g KeepsFiles → Tells f g (HeldBefore fact)
-held-kept fact R f g step told keeps =
-    tells-map f g (λ x y. R x y × KeepsFiles x y) (HeldBefore fact)
-    (λ x y r. record { held = subst fact r.1.file (step x y r.0) }) (tells-both f g R KeepsFiles told keeps)
-
 -- ---- outcomes that follow
 
 -- the first calls gave a value, and the outcome of the next is that of all

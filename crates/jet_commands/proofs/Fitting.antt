@@ -1,4 +1,4 @@
--- A log that fits its program, or why it doesn't; and queries of several rules.
+-- A log that fits its program, or why it doesn't.
 use Rattle.std.proofs.Common.{◌≡◌, ◌≢◌, ◌∙◌, ap, sym, ℕ, List, Bool, Some, None, Result, Ok, Err, if◌then◌else◌}
 use Rattle.std.specs.Option.{ok_or}
 use Rattle.std.specs.Str.{bytes_eq}
@@ -14,14 +14,11 @@ use Rattle.jet_refusal.specs.declared.refusal.Refusal.{Refusal}
 use Rattle.jet_refusal.specs.declared.refusal.Refusal.TheVariants as refusal
 use Rattle.jet_model.specs.Outcomes.{and_then}
 use Rattle.jet_model.specs.Contents.{Program}
-use Rattle.jet_model.specs.Answer.{digest_check, start_in, unless_diverged, fitting_start, unless_other_rule, rules_check}
+use Rattle.jet_model.specs.Answer.{digest_check, start_in, unless_diverged, fitting_start}
 use Rattle.jet_model.proofs.AndThen.{and_then-ok, and_then-err}
 use Rattle.no_memory.specs.declared.Fault.{Fault}
 use Rattle.no_memory.specs.declared.Fault.TheVariants.{At, NoMemory}
 use Rattle.no_memory.specs.Faults.{IsCausedBy}
-use Rattle.report_model.specs.declared.OtherRule.{OtherRule}
-use Rattle.report_model.specs.Query.{Query}
-use Rattle.query_lang.specs.Answers.{IsFirstOther}
 use Rattle.replay_model.specs.declared.Misfit.{Misfit}
 use Rattle.replay_model.specs.declared.Misfit.TheVariants.{WrongProgram, Window, Diverged}
 use Rattle.replayer.specs.Checks.{IsMisfit}
@@ -69,8 +66,3 @@ misfit-stops program log (At (WrongProgram kept seen)) r is gives = rw gives (fi
 misfit-stops program log (At (Window window)) r is gives = rw gives (fitting_start-window program log window.pages is.digest is.none is.pages_are)
 misfit-stops program log (At (Diverged d)) r is gives = rw gives (fitting_start-diverged program log is.start d is.digest is.begins is.first)
 misfit-stops program log (NoMemory no_memory) r is gives = rw gives tt
-
-pub rules-stop : (queries : List Query) (fault : Fault OtherRule) (r : Refusal) → IsCausedBy (IsFirstOther queries) fault
-    → IsRefusalOf (λ rule given. given ≡ refusal.Rules rule.first rule.index rule.other) fault r → IsWork (rules_check queries) (Err r)
-rules-stop queries (At rule) r is gives = rw gives (ap unless_other_rule is)
-rules-stop queries (NoMemory no_memory) r is gives = rw gives tt

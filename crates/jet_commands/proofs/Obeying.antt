@@ -1,12 +1,12 @@
 -- From the answer of a command's files, and the delivery of its text, to how the command is obeyed.
-use Rattle.std.proofs.Common.{◌≡◌, ◌∙◌, sym, subst, refl, arith, ℕ, ◌≤◌, inl, inr, List, [], ◌∷◌, Option, Some, None, Result, Ok, Err, OnOk, OnErr, append-nil, true, ◌++◌}
+use Rattle.std.proofs.Common.{◌≡◌, ◌∙◌, sym, subst, refl, arith, ℕ, ◌≤◌, inl, inr, List, [], Option, Some, None, Result, Ok, Err, OnOk, OnErr, append-nil, true, ◌++◌}
 use Rattle.std.specs.Prelude.{IsOk, IsErr}
 use Rattle.std.proofs.lemmas.Result.{on_ok_weaker, on_err_weaker}
 use Rattle.outer_io.specs.Faults.{Rose, HasCause}
 use Rattle.outer_io.specs.Shown.{StoreShown, SinkShown}
 use Rattle.outer_io.specs.Tells.{Tells, Gains, GainsPrefix}
 use Rattle.outer_io.specs.Files.{Files, Text, KeepsFiles}
-use Rattle.outer_io.specs.WriteFile.{IsWritten, PutsPart, KeepsOtherFiles}
+use Rattle.outer_io.specs.WriteFile.{PutsPart}
 use Rattle.outer_io.proofs.TellsLemmas.{tells-then, tells-both, tells-same, tells-nothing, rose-earlier, tells-map, tells-gains, gains-prefix}
 use Rattle.jet_words.specs.Commands.{CommandOf}
 use Rattle.jet_refusal.specs.declared.refusal.Refusal.{Refusal}
@@ -46,22 +46,6 @@ told text f o n silent r cause whole part = record {
   later = omega arith;
   store = on_ok r (λ is. refl);
   output = on_ok r cause.stood;
-}
-
--- a file was
-pub made : {T E : Type 0} (name : Text) (text : List ℕ) (f h : StoreShown) (o : SinkShown) (silent : Type 0) (r : Result T E) → silent → HasCause f.faults h.faults r
-    → OnOk r (Tells f.files h.files (IsWritten name text)) → OnErr r (Tells f.files h.files (PutsPart name text)) → Tells f.files h.files (KeepsOtherFiles name)
-    → Tells f.opened h.opened (Gains (name ∷ [])) → Delivery (ToFile name) text f h o o silent r
-made name text f h o silent r aside cause whole part others opened = record {
-  whole = whole;
-  part = part;
-  failed = on_err r cause.failed;
-  keeps = others;
-  opened = opened;
-  aside = aside;
-  later = cause.later;
-  store = on_ok r cause.stood;
-  output = on_ok r (λ is. refl);
 }
 
 -- words that stand for no command

@@ -1,6 +1,6 @@
 -- From what was found in files, and the work on it, to what the files come to.
 use Rattle.std.proofs.Common.{◌≡◌, ◌∙◌, ap, ap₂, sym, refl, subst, append-nil, ℕ, ◌+◌, List, Bool, true, false, [], ◌∷◌, ◌++◌, Option, Some, None, Result, Ok, Err}
-use Rattle.std.specs.Prelude.{codes, if◌then◌else◌, is_ok, IfOk}
+use Rattle.std.specs.Prelude.{codes, if◌then◌else◌, is_ok, IfOk, IfErr}
 use Rattle.std.specs.Result.{IsErrAnd}
 use Rattle.std.specs.List.{filter}
 use Rattle.std.specs.Fmt.{decimal}
@@ -28,7 +28,8 @@ use Rattle.replay_model.specs.Run.{trace}
 use Rattle.replayer.specs.Jobs.{Job, trace_of}
 use Rattle.replayer.specs.Checks.{IsChecked}
 use Rattle.jet_refusal.specs.declared.refusal.Refusal.{Refusal}
-use Rattle.jet_refusal.proofs.Causes.{IsOwedTo-map}
+use Rattle.jet_refusal.specs.Faults.{IsOutOfMemory}
+use Rattle.jet_refusal.proofs.Causes.{IsOwedTo-map, IsOwedTo-out_of_memory}
 use Rattle.jet_model.specs.Outcomes.{and_then}
 use Rattle.jet_model.specs.Contents.{Contents, Run, run_at}
 use Rattle.jet_model.specs.Report.{over_trace, reports_from, reports_of}
@@ -225,11 +226,12 @@ reports-stop told run kept r one =
     owed-map (fits_and_is_cut told run ≡ Err r) (AreGivenAlike told run kept (Err r))
     (λ e qs alike. and_then-ok (rules_check qs) (λ same. analysed_answer told run (over_trace (reports_of qs))) tt (one_rule-check kept qs alike one) ∙ analysed-stops told run (over_trace (reports_of qs)) r e) r
 
-pub reports-give : (told : Option ℕ) (run : Run) (kept : List Query) (job : Job) (text : List ℕ) → first_other_rule kept ≡ None → IsChecked run.program.bytes run.program.image run.log job
-    → told_check told run.log ≡ Ok tt → text ≡ reports_of kept (trace_of job) → AreGivenAlike told run kept (Ok text)
-reports-give told run kept job text one checked few is qs alike =
+pub reports-come : (told : Option ℕ) (run : Run) (kept : List Query) (job : Job) (result : Result Given Refusal) → first_other_rule kept ≡ None → IsChecked run.program.bytes run.program.image run.log job
+    → told_check told run.log ≡ Ok tt → IfOk result (λ given. given_text given ≡ reports_of kept (trace_of job)) → IfErr result IsOutOfMemory → IsWorkOf (AreGivenAlike told run kept) (seen_by given_text result)
+reports-come told run kept job (Ok given) one checked few is out = λ qs alike.
     and_then-ok (rules_check qs) (λ same. analysed_answer told run (over_trace (reports_of qs))) tt (one_rule-check kept qs alike one)
-    ∙ analysed-gives told run (over_trace (reports_of qs)) job text checked few (is ∙ same_reports 1 kept qs (trace_of job) alike)
+    ∙ analysed-gives told run (over_trace (reports_of qs)) job (given_text given) checked few (is ∙ same_reports 1 kept qs (trace_of job) alike)
+reports-come told run kept job (Err r) one checked few is out = IsOwedTo-out_of_memory (by_reading (AreGivenAlike told run kept (Err r)) ⊥) r out
 
 -- ---- what is made of a run without a query
 

@@ -1,8 +1,12 @@
 //! The analysis of a run, of a program and a log that were read, for one query and for several; and its decisions.
-ghost use Rattle.std.specs.Prelude.{◌≡◌, ◌≤◌, Ok, Err, Some, None, length, IfOk, IfErr, OnOk};
+ghost use Rattle.std.specs.Prelude.{◌≡◌, ◌≤◌, List, Ok, Err, Some, None, length, IfOk, IfErr, OnOk};
+ghost use Rattle.flow_model.specs.declared.StepSeen.{StepSeen as Step};
 ghost use Rattle.replayer.specs.Checks.{IsChecked};
 ghost use Rattle.replayer.specs.Jobs.{trace_of};
+ghost use Rattle.report_model.specs.Query.{Query as Choice};
 ghost use Rattle.report_model.specs.Rows.{rows};
+ghost use Rattle.jet_refusal.specs.Faults.{IsOutOfMemory};
+ghost use Rattle.jet_model.specs.Report.{reports_from};
 ghost use Rattle.path_find.specs.Sinks.{IsLocated};
 ghost use Rattle.path_find.specs.Answer.{pair_report};
 ghost use Rattle.jet_words.specs.Commands.{IsPipeline};
@@ -10,7 +14,7 @@ ghost use Rattle.jet_model.specs.Answer.{told_check};
 ghost use Rattle.jet_commands.specs.Outcome.{IsWork, seen_by};
 ghost use Rattle.jet_commands.specs.Views.{run_of};
 ghost use Rattle.jet_commands.specs.Targets.{ToOutput};
-ghost use Rattle.jet_commands.specs.Answers.{IsWorkOf, IsGivenAlike, AreGivenAlike, fits_and_is_cut};
+ghost use Rattle.jet_commands.specs.Answers.{IsWorkOf, IsGivenAlike, AreGivenAlike, IsUnion, fits_and_is_cut};
 ghost use Rattle.jet_commands.specs.Answers.{decisions_by, format_text, format_target};
 ghost use Rattle.jet_commands.specs.Obeying.{given_text, given_target};
 
@@ -149,6 +153,16 @@ pub fn reports<'a, E: Engine>(
 {
     let union = union_of(resources.alloc, queries)?;
     let (_job, all) = analysed_run(resources, run, &union, pipeline)?;
-    let reports = own_parts(resources.alloc, &all, queries)?;
+    several(resources.alloc, &all, queries)
+}
+
+/// The reports of several queries, by the rows of one that asks for what any of them does.
+fn several<'a>(alloc: Global, all: &Report, queries: &[Query]) -> Result<Given<'a>, Refusal>
+    ensures text { IfOk result (λ given. (union : Choice) (trace : List Step)
+        → IsUnion queries.now union → all.now ≡ rows union trace → given_text given ≡ reports_from 1 queries.now trace) }
+    ensures goes { IfOk result (λ given. given_target given ≡ ToOutput) }
+    ensures err { IfErr result IsOutOfMemory }
+{
+    let reports = own_parts(alloc, all, queries)?;
     Ok(Given::Told(Answer::Several(reports)))
 }

@@ -123,7 +123,7 @@ pub fn answer<'a, E: Engine, S: Store, K: Clock>(
             pipeline,
         } => {
             let format = Format::Listed(*listing);
-            analysis(resources, store, program, log, query, format, *pipeline)
+            analysis(resources, store, *program, *log, *query, format, *pipeline)
         }
         Command::Page {
             program,
@@ -132,30 +132,36 @@ pub fn answer<'a, E: Engine, S: Store, K: Clock>(
             page,
             pipeline,
         } => {
-            let format = Format::Page(page);
-            analysis(resources, store, program, log, query, format, *pipeline)
+            let format = Format::Page(*page);
+            analysis(resources, store, *program, *log, *query, format, *pipeline)
         }
         Command::Decisions {
             program,
             log,
             query,
-        } => decisions(alloc, store, program, log, query),
+        } => decisions(alloc, store, *program, *log, *query),
         Command::Queries {
             program,
             log,
             queries: names,
             pipeline,
-        } => queries(resources, store, program, log, names, *pipeline),
+        } => queries(resources, store, *program, *log, names, *pipeline),
         Command::Product {
             product,
             program,
             log,
-        } => run_product(alloc, store, program, log, Making::Product(*product)),
+        } => run_product(alloc, store, *program, *log, Making::Product(*product)),
         Command::Stacks {
             program,
             log,
             times,
-        } => run_product(alloc, store, program, log, Making::Stacks(times.as_slice())),
+        } => run_product(
+            alloc,
+            store,
+            *program,
+            *log,
+            Making::Stacks(times.as_slice()),
+        ),
         Command::Core {
             program,
             log,
@@ -163,13 +169,19 @@ pub fn answer<'a, E: Engine, S: Store, K: Clock>(
             core,
         } => {
             let core = Making::Core {
-                name: core,
+                name: *core,
                 time: *time,
             };
-            run_product(alloc, store, program, log, core)
+            run_product(alloc, store, *program, *log, core)
         }
         Command::Convert { program, log, new } => {
-            run_product(alloc, store, program, log, Making::Converted { name: new })
+            run_product(
+                alloc,
+                store,
+                *program,
+                *log,
+                Making::Converted { name: *new },
+            )
         }
         Command::Record {
             program,
@@ -184,7 +196,7 @@ pub fn answer<'a, E: Engine, S: Store, K: Clock>(
                 piece: *piece,
                 steps: *steps,
             };
-            record(alloc, store, clock, program, inputs, limits, log)
+            record(alloc, store, clock, *program, inputs, limits, *log)
         }
         Command::Bench {
             seed,

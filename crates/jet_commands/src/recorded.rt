@@ -66,7 +66,6 @@ fn log_file<'a, K: Clock>(
 
 /// Reads the program and its inputs, one after another, and records the run, into a log of this name. It gives up as reading
 /// them does, with `Window`, with `LogTooLong`, or out of memory.
-#[tactic(auto, using(crate::proofs::Giving::unasked))]
 pub fn record<'a, S: Store, K: Clock>(
     alloc: Global,
     store: &mut S,

@@ -1,10 +1,9 @@
-use Rattle.std.proofs.Common.{rules, ap, ◌∙◌, Err}
+use Rattle.std.proofs.Common.{rules, Err}
+use Rattle.std.proofs.lemmas.Result.{IfOk-weaker}
 use Rattle.replayer.specs.Jobs.{trace_of}
 use Rattle.jet_commands.specs.Views.{run_of}
 use Rattle.jet_commands.specs.Answers.{IsWorkOf, AreGivenAlike}
-use Rattle.jet_commands.specs.Texts.{reports_text}
-use Rattle.jet_commands.proofs.Reporting.{rows-reports}
-use Rattle.jet_commands.proofs.Working.{rules-stop, reports-stop, reports-give}
+use Rattle.jet_commands.proofs.Working.{rules-stop, reports-stop, reports-come}
 use Rattle.jet_commands.proofs.analysis.reports.Goals as goal
 
 pub returns-in_err-union-clause-answer : goal.returns-in_err-union-clause-answer
@@ -21,5 +20,6 @@ returns-in_err-_job-clause-answer g c =
 
 pub returns-clause-answer : goal.returns-clause-answer
 returns-clause-answer g c =
-    reports-give c.args.pipeline.epoch (run_of c.args.run) c.args.queries.now c.in_ok-_job._job (reports_text 1 c.in_ok-reports.reports.items) c.in_ok-union.ensures.ok.one_rule c.in_ok-_job.ensures.checked c.in_ok-_job.ensures.few
-    (ap (reports_text 1) (c.in_ok-reports.ensures c.in_ok-union.union (trace_of c.in_ok-_job._job) c.in_ok-union.ensures.ok c.in_ok-_job.ensures.report) ∙ rows-reports 1 c.args.queries.now (trace_of c.in_ok-_job._job))
+    let job = c.in_ok-_job._job in
+    reports-come c.args.pipeline.epoch (run_of c.args.run) c.args.queries.now job c.several.result c.in_ok-union.ensures.ok.one_rule c.in_ok-_job.ensures.checked c.in_ok-_job.ensures.few
+    (IfOk-weaker c.several.result _ _ (λ given told. told c.in_ok-union.union (trace_of job) c.in_ok-union.ensures.ok c.in_ok-_job.ensures.report) c.several.ensures.text) c.several.ensures.err

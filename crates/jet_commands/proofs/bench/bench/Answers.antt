@@ -14,9 +14,6 @@ some_length : (told : Option ℕ) → IfSome told (λ n. (1 ≤ n) × (n ≤ 109
 some_length None h = omega arith
 some_length (Some n) h = h.0
 
-pub cuts_of-requires : goal.cuts_of-requires
-cuts_of-requires g c = subst (λ (n : ℕ). 1 ≤ n) (sym c.unwrap_or-length.ensures) (some_length c.args.pipeline.epoch c.requires.pipeline.0)
-
 pub returns-in_err-job-clause-answer : goal.returns-in_err-job-clause-answer
 returns-in_err-job-clause-answer g c =
     let refused : IsWorkOf (IsBenchAnswer c.args.seed c.args.steps (workload_length c.args.pipeline)) (Err c.in_err-job.field-0.0) =
@@ -31,14 +28,17 @@ returns-in_err-cuts-clause-answer g c =
     (subst (λ (log : Log). IsWork (epochs_check c.unwrap_or-length.result log) (Err c.in_err-cuts.field-0.0)) c.log.ensures c.in_err-cuts.ensures.check)) in
     search rules
 
-pub returns-in_err-text-clause-answer : goal.returns-in_err-text-clause-answer
-returns-in_err-text-clause-answer g c =
-    let p = err_from_is_err_and c.from_residual-in_err-text.result c.from_residual-in_err-text.ensures.1 in
-    rw (p.1, p.2) tt
-
 pub returns-clause-answer : goal.returns-clause-answer
 returns-clause-answer g c =
     subst (λ (n : ℕ). IsBenchAnswer c.args.seed c.args.steps n (Ok c.in_ok-text.text.items)) c.unwrap_or-length.ensures
     (lines-give c.args.seed c.args.steps c.unwrap_or-length.result c.in_ok-job.job c.in_ok-job.ensures.ok
     (subst (λ (log : Log). epochs_check c.unwrap_or-length.result log ≡ Ok tt) c.log.ensures c.in_ok-cuts.ensures.check) c.in_ok-cuts.cuts c.in_ok-text.text.items
     (c.in_ok-cuts.ensures.times ∙ ap (λ (log : Log). cut_times (steps log) c.unwrap_or-length.result) c.log.ensures) c.in_ok-text.ensures)
+
+pub cuts_of-requires : goal.cuts_of-requires
+cuts_of-requires g c = subst (λ (n : ℕ). 1 ≤ n) (sym c.unwrap_or-length.ensures) (some_length c.args.pipeline.epoch c.requires.pipeline.0)
+
+pub returns-in_err-text-clause-answer : goal.returns-in_err-text-clause-answer
+returns-in_err-text-clause-answer g c =
+    let p = err_from_is_err_and c.from_residual-in_err-text.result c.from_residual-in_err-text.ensures.1 in
+    rw (p.1, p.2) tt

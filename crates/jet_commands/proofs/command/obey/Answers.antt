@@ -1,17 +1,7 @@
-use Rattle.std.proofs.Common.{◌≡◌, refl, sym, subst, Option}
-use Rattle.outer_io.specs.Outside.{change}
-use Rattle.jet_words.specs.Commands.{CommandOf}
+use Rattle.std.proofs.Common.{refl}
 use Rattle.jet_commands.specs.Plans.{command_in}
-use Rattle.jet_commands.specs.Obeying.{Obeys}
 use Rattle.jet_commands.proofs.Obeying.{no_command, not_begun}
 use Rattle.jet_commands.proofs.command.obey.Goals as goal
-
-pub returns-in-Ok-clause-obeys : goal.returns-in-Ok-clause-obeys
-returns-in-Ok-clause-obeys g c =
-    let a = c.args in
-    let n = c.carry_out.new in
-    subst (λ (command : Option CommandOf). Obeys command (change g.S.Store.shown g.O.Sink.shown g.K.Clock.answers a.store.now a.out.now a.clock.now n.store n.out n.clock) (n.out ≡ a.out.now) (n.clock ≡ a.clock.now) c.carry_out.result)
-    (sym c.in-Ok.ensures.command) c.carry_out.ensures
 
 pub returns-in-Err-At-clause-obeys : goal.returns-in-Err-At-clause-obeys
 returns-in-Err-At-clause-obeys g c =

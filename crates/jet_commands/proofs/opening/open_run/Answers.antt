@@ -1,4 +1,4 @@
-use Rattle.std.proofs.Common.{[], ◌∷◌, List, ℕ, Result, Ok, Err, refl}
+use Rattle.std.proofs.Common.{[], ◌∷◌, List, ℕ, Result, Ok, Err}
 use Rattle.std.proofs.lemmas.Result.{err_from_is_err_and}
 use Rattle.outer_io.proofs.ReadsLemmas.{reads-then, reads-stops, reads-less}
 use Rattle.log_model.specs.Logs.{Log}
@@ -6,7 +6,7 @@ use Rattle.jet_refusal.specs.declared.refusal.Refusal.{Refusal}
 use Rattle.jet_model.specs.Outcomes.{and_then}
 use Rattle.jet_model.specs.Contents.{Contents, Program, Run, program_at, log_at}
 use Rattle.jet_commands.specs.Views.{program_of}
-use Rattle.jet_commands.proofs.Composing.{outcome_of-stops, outcome_of-then, outcome_of-work}
+use Rattle.jet_commands.proofs.Composing.{outcome_of-stops, outcome_of-then}
 use Rattle.jet_commands.proofs.opening.open_run.Goals as goal
 
 -- the run of a program and a log
@@ -40,15 +40,5 @@ returns-in_err-log g c =
       reads = reads-less _ (reads-then c.in_ok-program.ensures.reads c.in_err-log.ensures.reads);
     })
 
-pub returns : goal.returns
-returns g c =
-    let between = g.S.Store.shown c.open_program.new.store in
-    let after = g.S.Store.shown c.open_log.new.store in
-    let log = c.args.log.now in
-    let program = program_of c.in_ok-program.program in
-    record {
-      outcome = outcome_of-then (λ file. program_at file c.args.program.now) (run_with log) program (g.S.Store.shown c.args.store.now) between after c.in_ok-program.ensures.outcome c.in_ok-program.ensures.reads c.in_ok-log.ensures.reads
-          (log_with program c.in_ok-log.log) (outcome_of-work (λ file. log_at file log) (log_with program) c.in_ok-log.log between after c.in_ok-log.ensures.outcome (log_with program c.in_ok-log.log) refl);
-      short = c.in_ok-program.ensures.short;
-      reads = reads-then c.in_ok-program.ensures.reads c.in_ok-log.ensures.reads;
-    }
+pub returns-clause-reads : goal.returns-clause-reads
+returns-clause-reads g c = reads-then c.in_ok-program.ensures.reads c.in_ok-log.ensures.reads

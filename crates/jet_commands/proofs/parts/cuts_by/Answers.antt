@@ -1,20 +1,11 @@
 use Rattle.std.proofs.Common.{◌≡◌, ◌∙◌, ap, subst, arith, ℕ, Result}
-use Rattle.std.proofs.lemmas.Result.{IfOk-weaker}
 use Rattle.log_model.specs.Logs.{steps}
-use Rattle.epoch_model.specs.ByLength.{cut_times}
 use Rattle.jet_refusal.specs.declared.refusal.Refusal.{Refusal}
 use Rattle.jet_model.specs.Lengths.{epoch_length}
 use Rattle.jet_model.specs.Answer.{epochs_check}
 use Rattle.jet_model.proofs.Lengths.{untold-checked}
 use Rattle.jet_commands.specs.Outcome.{IsWork, seen_by}
 use Rattle.jet_commands.proofs.parts.cuts_by.Goals as goal
-
-pub returns-clause-times : goal.returns-clause-times
-returns-clause-times c =
-    let p = c.args.pipeline in
-    let log = c.args.log.now in
-    let same : c.epoch_length-length.result ≡ epoch_length p.epoch p.workers (steps log) = c.epoch_length-length.ensures ∙ ap (epoch_length p.epoch p.workers) c.steps_of.ensures in
-    IfOk-weaker c.cuts_of.result _ _ (λ cuts e. e ∙ ap (cut_times (steps log)) same) c.cuts_of.ensures.times
 
 -- untold epochs are few
 pub returns-clause-check : goal.returns-clause-check

@@ -1,4 +1,4 @@
-use Rattle.std.proofs.Common.{arith, ◌≡◌, ◌+◌, ◌∷◌, ◌++◌, [], ap, sym, refl, subst, ℕ, List, length, take, true, Ok, Bor}
+use Rattle.std.proofs.Common.{arith, ◌≡◌, ◌+◌, ◌∷◌, ◌++◌, [], ap, sym, refl, subst, ℕ, List, length, true, Ok, Bor}
 use Rattle.std.proofs.lemmas.List.{length_push, take_all}
 use Rattle.std.proofs.lemmas.Result.{err_from_is_err_and}
 use Rattle.report_model.specs.Query.{Query}
@@ -60,25 +60,18 @@ returns-in_err-query g c =
       reads = reads_some names index _ before between after c.loop-name-test.true i.reads c.in_err-query.ensures.reads;
     })
 
--- out of memory
-pub returns-in_err-push : goal.returns-in_err-push
-returns-in_err-push g c =
+pub returns-in_err-push-clause-reads : goal.returns-in_err-push-clause-reads
+returns-in_err-push-clause-reads g c =
     let p = err_from_is_err_and c.from_residual-in_err-push.result c.from_residual-in_err-push.ensures.1 in
-    rw (p.1, p.2.is) (record {
-      outcome = tt;
-      many = tt;
-      reads = reads_some c.args.names.now c.loop-name.name-index _ _ (g.S.Store.shown c.loop-name.store) _ c.loop-name-test.true c.loop-name.invariant.reads c.in_ok-query.ensures.reads;
-    })
+    rw p.1 (reads_some c.args.names.now c.loop-name.name-index _ _ (g.S.Store.shown c.loop-name.store) _ c.loop-name-test.true c.loop-name.invariant.reads c.in_ok-query.ensures.reads)
 
 -- all were read
-pub returns : goal.returns
-returns g c =
-    let before = g.S.Store.shown c.args.store.now in
-    let now = g.S.Store.shown c.loop-name.store in
-    let i = c.loop-name.invariant in
-    let all : take c.loop-name.name-index c.args.names.now ≡ c.args.names.now = take_all c.loop-name.name-index c.args.names.now c.loop-name-test.false in
-    record {
-      outcome = subst (λ (w : List (Bor (List ℕ))). IsOutcomeBy (λ file kept. AreAllAlike kept (queries_at file (texts w))) before now (Ok c.loop-name.queries.items)) all i.outcome;
-      many = omega (arith, i.many, c.loop-name-test.false, c.loop-name.auto.name-index-end);
-      reads = subst (λ (w : List (Bor (List ℕ))). Reads (texts w) true before now) all i.reads;
-    }
+pub returns-clause-outcome : goal.returns-clause-outcome
+returns-clause-outcome g c =
+    subst (λ (w : List (Bor (List ℕ))). IsOutcomeBy (λ file kept. AreAllAlike kept (queries_at file (texts w))) (g.S.Store.shown c.args.store.now) (g.S.Store.shown c.loop-name.store) (Ok c.loop-name.queries.items))
+    (take_all c.loop-name.name-index c.args.names.now c.loop-name-test.false) c.loop-name.invariant.outcome
+
+pub returns-clause-reads : goal.returns-clause-reads
+returns-clause-reads g c =
+    subst (λ (w : List (Bor (List ℕ))). Reads (texts w) true (g.S.Store.shown c.args.store.now) (g.S.Store.shown c.loop-name.store))
+    (take_all c.loop-name.name-index c.args.names.now c.loop-name-test.false) c.loop-name.invariant.reads

@@ -1,4 +1,4 @@
-use Rattle.std.proofs.Common.{◌∙◌, ap, inl, inr, subst, List, ℕ}
+use Rattle.std.proofs.Common.{subst, List, ℕ}
 use Rattle.std.proofs.lemmas.Result.{err_from_is_err_and}
 use Rattle.elf_model.specs.Image.{image}
 use Rattle.no_memory.specs.Faults.{IsCausedBy}
@@ -9,9 +9,6 @@ use Rattle.jet_commands.specs.Views.{program_of}
 use Rattle.jet_commands.specs.Answers.{limits_of}
 use Rattle.jet_commands.proofs.Recording.{captured-text, not_captured, not_read}
 use Rattle.jet_commands.proofs.recorded.log_file.Goals as goal
-
-pub capture-requires-clause-image : goal.capture-requires-clause-image
-capture-requires-clause-image g c = ap image c.deref.ensures.value ∙ c.args.program.now.loads
 
 pub returns-clause-answer : goal.returns-clause-answer
 returns-clause-answer g c =
@@ -38,8 +35,3 @@ returns-in_err-log g c =
       goes = tt;
       unasked = not_read source limits heard after c.args.program.now.loads fault _ cause p.2;
     })
-
-pub returns-in_err-content-clause-unasked : goal.returns-in_err-content-clause-unasked
-returns-in_err-content-clause-unasked g c =
-    let p = err_from_is_err_and c.from_residual-in_err-content.result c.from_residual-in_err-content.ensures.1 in
-    rw p.1 (inl (inr (inr (record { told = _; is = p.2 }))))

@@ -15,14 +15,14 @@ returns-then-size c =
     let told : capped (length (log_text Two log)) ≡ c.size-size.result = omega (arith, size, c.size-size.ensures.limit) in
     long_text log long ∙ ap (λ (n : ℕ). Err (refusal.LogTooLong n)) told
 
-pub write_log-requires : goal.write_log-requires
-write_log-requires c =
-    let job = c.args.job.now in
-    subst (λ (l : Log). CanHold Two l) (sym c.log-log.ensures) (fitting_is_held job.start job.log c.form.ensures.form c.form.ensures.agrees c.form.ensures.small)
-
 pub returns : goal.returns
 returns c =
     let log = c.args.job.now.log in
     let size : c.size-size.result ≡ length (log_text Two log) = c.size-size.ensures.length ∙ ap (λ (l : Log). length (log_text Two l)) c.log-log.ensures in
     let short : length (log_text Two log) ≤ 2 ^ 26 = omega (arith, c.if-size.false, size) in
     short_text log short ∙ ap Ok (sym (c.in_ok-text.ensures ∙ ap (λ (l : Log). log_text Two l) c.log-log.ensures))
+
+pub write_log-requires : goal.write_log-requires
+write_log-requires c =
+    let job = c.args.job.now in
+    subst (λ (l : Log). CanHold Two l) (sym c.log-log.ensures) (fitting_is_held job.start job.log c.form.ensures.form c.form.ensures.agrees c.form.ensures.small)
