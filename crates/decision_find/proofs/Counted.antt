@@ -100,9 +100,6 @@ module _ (old new : SourceLabels) (k : KeepsLabels label_words old new) where
   pub groups_kept : (ds : List Decision) (groups : Groups) → AreGroups old ds groups → AreGroups new ds groups
   groups_kept ds groups h = record { keys = h.keys; each = λ p. is_kept (decided_there p ds) (get place_cmp groups.by_place p) (h.each p) }
 
-  pub labels_kept : (groups : Groups) → HaveLabels old groups → HaveLabels new groups
-  labels_kept groups h = λ p g e. (k g.label (h p g e)).stands
-
   -- the first decision of a place
   first_group : (d : Decision) (label : Label) (g : Group) → label_words.stands old label → d.sources ≡ label_words.means old label
       → g ≡ record { instr = d.instr; count = 1; first = d.time; label = label } → IsGroupOf new d [] g

@@ -1,5 +1,5 @@
 -- A step that is followed: its look is noted, and the labels are turned.
-use Rattle.std.proofs.Common.{◌≡◌, ℕ, zero, suc, ◌+◌, List, [], ◌++◌, refl, ap, ap₂, sym, ◌∙◌, subst, add-one, append_assoc, append-nil, ◌<◌, true, false, arith}
+use Rattle.std.proofs.Common.{◌≡◌, ℕ, zero, suc, ◌+◌, List, [], ◌++◌, refl, ap, ap₂, sym, ◌∙◌, subst, add-one, append_assoc, append-nil, ◌<◌, true, arith}
 use Rattle.std.specs.Prelude.{Option, MatchOption}
 use Rattle.isa.specs.declared.Instr.{Instr}
 use Rattle.isa.specs.Machine.{fetch, Fetched}
@@ -28,7 +28,7 @@ use Rattle.decision_find.specs.Groups.{AreGroups, HaveLabels}
 use Rattle.decision_find.specs.Following.{IsSound, IsTracked, IsStepOf, IsTurned, Notes, HasDecisions, deciding_policy, moment_of, TracksStep}
 use Rattle.decision_find.proofs.Counted.{groups_kept}
 use Rattle.decision_find.proofs.Looking.{looks_at_step, looks_at_end}
-use Rattle.std.proofs.lemmas.Bool.{eqb-true, eqb-false}
+use Rattle.std.proofs.lemmas.Bool.{eqb-true}
 use Rattle.log_model.specs.declared.RunEnd.{RunEnd}
 use Rattle.log_model.specs.declared.RunEnd.TheVariants.{Exit, Trap, Limit}
 use Rattle.replay_run.specs.Runs.{RunAt}
@@ -132,14 +132,7 @@ begun q job t query rule kept groups none = record {
   groups = none;
 }
 
--- a run that doesn't trap is seen at each of its steps
-pub seen_at_steps : (q : Query) (job : Job) (t : DecisionTracking) → moments_seen job.log.end ≡ steps job.log → IsTracked q job (steps job.log) t → HasDecisions q job t
-seen_at_steps q job t e h = record {
-  sound = h.sound.groups;
-  groups = subst (λ (n : ℕ). AreGroups t.labels (decided_from (deciding_policy q) (trace_of job) n (start job.start job.log)) t.groups) (sym e) h.groups;
-}
-
--- and one that traps there too
+-- a run that traps is seen where it traps too
 pub seen_at_trap : (q : Query) (job : Job) (look : Look) (old new : DecisionTracking) → IsLookAt (moment_of job (steps job.log)) look → look.time ≡ steps job.log
     → moments_seen job.log.end ≡ steps job.log + 1 → Notes look (looked_at old.rule look) old new → HaveLabels new.labels new.groups
     → IsTracked q job (steps job.log) old → HasDecisions q job new
@@ -148,8 +141,6 @@ seen_at_trap q job look old new is time e noted sound h = record {
   groups = subst (λ (n : ℕ). AreGroups new.labels (decided_from (deciding_policy q) (trace_of job) n (start job.start job.log)) new.groups) (sym e)
       (groups_more q job (steps job.log) look old new h is time noted);
 }
-
--- ---- a run that is watched: where it stands, step after step
 
 -- ---- the end of a run
 
@@ -163,12 +154,6 @@ trap_there : (ends : RunEnd) (t : ℕ) → traps_at (trap_time ends) t ≡ true 
 trap_there (Exit at code) t e = absurd cc
 trap_there (Trap at kind pc) t e = record { kind = kind; pc = pc; is = ap (λ (n : ℕ). Trap n kind pc) (sym (eqb-true t at e)) }
 trap_there (Limit at) t e = absurd cc
-
--- one that doesn't trap after its last step is seen at each of its steps
-no_trap_there : (ends : RunEnd) (t : ℕ) → traps_at (trap_time ends) t ≡ false → t ≡ steps_by ends → moments_seen ends ≡ steps_by ends
-no_trap_there (Exit at code) t e last = refl
-no_trap_there (Trap at kind pc) t e last = absurd (eqb-false t at e last)
-no_trap_there (Limit at) t e last = refl
 
 -- ---- where a run stands
 
@@ -185,30 +170,6 @@ module _ (q : Query) (job : Job) (at : RunAt) (is : IsJob job) (stands : Stands 
       let seen : moments_seen job.log.end ≡ steps job.log + 1 = ap moments_seen trap.is ∙ ap (λ (n : ℕ). n + 1) last in
       let looks = looks_at_end job at.moment.state look t trap.kind trap.pc is state trap.is (time ∙ last) pc there in
       seen_at_trap q job look old new looks (time ∙ last) seen noted sound (subst (λ (n : ℕ). IsTracked q job n old) last h)
-
-  -- the pc there
-  pub own_pc : (pc : ℕ) → pc ≡ at.moment.state.pc → pc ≡ (moment_of job at.moment.time).state.pc
-  own_pc pc e = e ∙ ap (λ (m : Moment). m.state.pc) stands.here
-
-  module _ (trap_at : Option ℕ) (trap_is : trap_at ≡ trap_time job.log.end) (t : DecisionTracking) where
-    own_trap : traps_at trap_at at.moment.time ≡ traps_at (trap_time job.log.end) at.moment.time
-    own_trap = ap (λ (o : Option ℕ). traps_at o at.moment.time) trap_is
-
-    -- the run doesn't trap there
-    pub followed_here : traps_at trap_at at.moment.time ≡ false → IsTracked q job at.moment.time t → IsFollowed q job at.moment.time t
-    followed_here e h = record {
-      tracked = λ below. h;
-      counted = λ last. seen_at_steps q job t (no_trap_there job.log.end at.moment.time (sym own_trap ∙ e) last) (subst (λ (n : ℕ). IsTracked q job n t) last h);
-    }
-
-    -- it traps there
-    pub followed_to_trap : traps_at trap_at at.moment.time ≡ true → (traps_at (trap_time job.log.end) at.moment.time ≡ true → HasDecisions q job t) → IsFollowed q job at.moment.time t
-    followed_to_trap e h = record { tracked = λ below. absurd (omega (arith, below, last)); counted = λ now. h there } where
-      there : traps_at (trap_time job.log.end) at.moment.time ≡ true
-      there = sym own_trap ∙ e
-
-      last : at.moment.time ≡ steps job.log
-      last = sym (ap steps_by (trap_there job.log.end at.moment.time there).is)
 
 -- ---- a step
 

@@ -13,7 +13,6 @@ use Rattle.flow_model.specs.Ranges.{AreLocations}
 use Rattle.flow_model.proofs.Located.{in-lanes}
 use Rattle.taint_shadow.proofs.Meaning.{AreHere, lanes_here, union_here}
 use Rattle.decision_find.specs.Decides.{base_of_load, used, asked, decides}
-use Rattle.decision_find.specs.Decisions.{fetched_from}
 
 located : (ls : List Loc) → AreHere ls → AreLocations ls
 located [] h = tt
@@ -60,6 +59,3 @@ decides_located rule kind (Sh a b imm) h = in-lanes a h.0
 decides_located rule kind (Sw a b imm) h = in-lanes a h.0
 decides_located rule kind Ecall h = in_call kind
 decides_located rule kind i h = tt
-
-pub fetched_located : (pc : ℕ) → AreLocations (fetched_from pc)
-fetched_located pc = (omega arith, (omega arith, (omega arith, (omega arith, tt))))

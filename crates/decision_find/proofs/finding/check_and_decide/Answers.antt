@@ -1,12 +1,8 @@
 use Rattle.std.proofs.Common.{ap, sym, ◌∙◌, subst}
-use Rattle.elf_model.specs.Image.{image}
 use Rattle.log_model.specs.declared.RunEnd.{RunEnd}
 use Rattle.log_model.specs.Logs.{Log}
 use Rattle.decision_find.specs.Watched.{HasBegun}
 use Rattle.decision_find.proofs.finding.check_and_decide.Goals as goal
-
-pub check_watched-requires : goal.check_watched-requires
-check_watched-requires c = ap image c.deref.ensures.value ∙ c.args.program.loads
 
 pub returns-clause-text : goal.returns-clause-text
 returns-clause-text c =
