@@ -6,13 +6,13 @@ use Rattle.epoch_link.specs.Link.{EndView}
 use Rattle.flow_model.specs.declared.Loc.{Loc}
 use Rattle.flow_model.specs.declared.Message.{Message}
 use Rattle.report_model.specs.Rows.{Row}
-use Rattle.epoch_summary.specs.declared.summary.Summary.{Summary}
 use Rattle.epoch_model.specs.Join.{rows_of}
 use Rattle.stream_model.specs.Streams.{is_ended, requests, heard, asked_of, asks_for, answers_for}
 use Rattle.stream_model.specs.StreamLaws.{IsPrefix}
 use Rattle.stream_model.specs.Passes.{Answering as AnsweringState, answering_start, rows_or_none}
 use Rattle.stream_model.specs.PassLaws.{AsksSent, AnswersSent}
 use Rattle.stream_model.specs.Schedules.{begun}
+use Rattle.epoch_summary.specs.declared.summary.Summary.{Summary}
 use Rattle.stream_model.proofs.Moving.{sent_part, IsGot, AskMoved, asking_moves, AnswerMoved, answering_moves}
 use Rattle.stream_model.proofs.Passing.{begun_whole}
 use denote.Enum.Bare.{sameb, same_true, same_false}
@@ -20,8 +20,10 @@ use Rattle.pass_parts.specs.declared.pass_turn.PassTurn.{PassTurn}
 use Rattle.pass_parts.specs.Ends.{through, IsEndFrom, got_by, sent_by, fresh_end}
 use Rattle.pass_parts.specs.Known.{known}
 use Rattle.pass_parts.specs.Requests.{locations}
-use Rattle.backward_pass.specs.Backward.{BackView, new_back, knows, state}
+use Rattle.backward_pass.specs.Backward.{BackView, new_back, knows, state, Reached}
+use Rattle.backward_pass.proofs.Reaching.{reached_next, sends_for}
 use Rattle.forward_pass.specs.Forward.{ForeView, known_by, fore_state, ForeKeeps, ForeReached}
+use Rattle.forward_pass.proofs.Reaching.{reached_next as fore_reached, reached_sends}
 use Rattle.epoch_node.specs.contracts.stage.Phase.{the_type}
 use Rattle.epoch_node.specs.declared.stage.Phase.{Phase}
 use Rattle.epoch_node.specs.declared.stage.Phase.TheVariants.{Done}
@@ -45,11 +47,6 @@ module _ {E : Type 0} (end : E → EndView Message) where
   same_none None None h = refl
   same_none (Some n) (Some o) h = refl
   same_none new old h = absurd h
-
-  -- an end that nothing used
-  pub same_end : (e : Option E) → IsEndFrom end e e
-  same_end None = tt
-  same_end (Some e) = record { link = refl; capacity = refl; other = refl }
 
 more_same : (list : Option (List Message)) → IsMore list list
 more_same None = tt
@@ -113,29 +110,32 @@ begun_asking i v b = record {
 
 module _ (i : CoreSetup) (v : BackView) (w : Traffic) (a : IsAsking i v w) (next : StageView) (got' sent' : Option (List Message)) (turn : PassTurn)
     (x : BackActs v w.asks_got w.asks_sent next got' sent' turn) where
-  asks_moved : AskMoved x.happens.links (state v w.asks_got w.asks_sent) (state x.back got' sent')
+  asks_moved : AskMoved x.event.happens.links (state v w.asks_got w.asks_sent) (state x.back got' sent')
   asks_moved =
-      subst (AskMoved x.happens.links (state v w.asks_got w.asks_sent)) (sym x.happens.is)
-      (asking_moves v.first (knows v) x.happens.links (state v w.asks_got w.asks_sent) a.running a.unended)
+      subst (AskMoved x.event.happens.links (state v w.asks_got w.asks_sent)) (sym x.event.happens.is)
+      (asking_moves v.first (knows v) x.event.happens.links (state v w.asks_got w.asks_sent) a.running a.unended)
+
+  pub asks_reached : Reached x.back got' sent'
+  asks_reached = reached_next v x.back w.asks_got w.asks_sent got' sent' turn x.event.happens x.event.same a.reached
 
   pub asks_got_more : is_none got' ≡ is_none w.asks_got → IsMore w.asks_got got'
   asks_got_more n = more_got w.asks_got got' n asks_moved.got
 
   pub asks_sent_more : is_none sent' ≡ is_none w.asks_sent → IsMore w.asks_sent sent'
-  asks_sent_more n = more_sent v.over v.whole x.back.over x.back.whole w.asks_sent sent' n (sent_part x.happens.links.has_room _ _ asks_moved.sent)
+  asks_sent_more n = more_sent v.over v.whole x.back.over x.back.whole w.asks_sent sent' n (sent_part x.event.happens.links.has_room _ _ asks_moved.sent)
 
   still_known : KnowsEpoch i x.back.summary
-  still_known = subst (KnowsEpoch i) (sym x.same.summary) a.summary
+  still_known = subst (KnowsEpoch i) (sym x.event.same.summary) a.summary
 
   pub still_asking : x.back.over ≡ false → IsAsking i x.back (record w { asks_got = got'; asks_sent = sent' })
   still_asking o = record {
     summary = still_known;
-    first = x.same.first ∙ a.first;
-    last = x.same.last ∙ a.last;
+    first = x.event.same.first ∙ a.first;
+    last = x.event.same.last ∙ a.last;
     running = o;
-    keeps = x.keeps;
-    reached = x.reached;
-    sends = x.sends;
+    keeps = x.event.keeps;
+    reached = asks_reached;
+    sends = sends_for x.back got' sent' asks_reached;
     unended = asks_moved.running o;
     answers_got = a.answers_got;
     answers_sent = a.answers_sent;
@@ -145,8 +145,8 @@ module _ (i : CoreSetup) (v : BackView) (w : Traffic) (a : IsAsking i v w) (next
   can_settle l n = record {
     got = got';
     sent = sent';
-    keeps = x.keeps;
-    first_is = x.same.first ∙ a.first;
+    keeps = x.event.keeps;
+    first_is = x.event.same.first ∙ a.first;
     alone = λ t. none got' (n ∙ l ∙ t);
   } where
     none : (g : Option (List Message)) → is_none g ≡ true → g ≡ None
@@ -164,9 +164,9 @@ module _ (i : CoreSetup) (v : BackView) (w : Traffic) (a : IsAsking i v w) (next
     over = o;
     asked = sym (ap (λ f. f.asked) s.new);
     asks = λ t. asks t;
-    ends = λ t. x.keeps.ends t (x.keeps.heard ∙ (x.sends t).ended o);
+    ends = λ t. x.event.keeps.ends t (x.event.keeps.heard ∙ (sends_for x.back got' sent' asks_reached t).ended o);
     noted = locations (requests_if x.back.whole x.back.requests);
-    noted_is = λ t. ap (λ b. locations (requests_if b x.back.requests)) t ∙ x.keeps.requested t;
+    noted_is = λ t. ap (λ b. locations (requests_if b x.back.requests)) t ∙ x.event.keeps.requested t;
     keeps = subst (λ g. ForeKeeps f g w.answers_sent) (sym a.answers_got) (subst (ForeKeeps f (fresh_end i.first)) (sym a.answers_sent) s.keeps);
     reached = subst (λ g. ForeReached i.first noted x.back.whole f g w.answers_sent) (sym a.answers_got) (subst (ForeReached i.first noted x.back.whole f (fresh_end i.first)) (sym a.answers_sent) s.reached);
     sends = λ _. record {
@@ -193,41 +193,43 @@ module _ (i : CoreSetup) (v : BackView) (w : Traffic) (a : IsAsking i v w) (next
     asks : x.back.whole ≡ true → AsksSent i.first (known_by f) (state x.back got' sent')
     asks t =
         subst (λ s. AsksSent i.first (known s) (state x.back got' sent')) (sym summary)
-        (subst (λ first. AsksSent first (knows x.back) (state x.back got' sent')) (x.same.first ∙ a.first) (x.sends t))
+        (subst (λ first. AsksSent first (knows x.back) (state x.back got' sent')) (x.event.same.first ∙ a.first) (sends_for x.back got' sent' asks_reached t))
 
 -- ---- the pass forwards
 
 module _ (i : CoreSetup) (f : ForeView) (w : Traffic) (a : IsAnswering i f w) (next : StageView) (got' sent' : Option (List Message)) (turn : PassTurn)
     (x : ForeActs f w.answers_got w.answers_sent next got' sent' turn) where
-  answers_moved : AnswerMoved x.happens.links (fore_state f w.answers_got w.answers_sent) (fore_state x.fore got' sent')
+  answers_moved : AnswerMoved x.event.happens.links (fore_state f w.answers_got w.answers_sent) (fore_state x.fore got' sent')
   answers_moved =
-      subst (AnswerMoved x.happens.links (fore_state f w.answers_got w.answers_sent)) (sym x.happens.is)
-      (answering_moves (known_by f) f.asked x.happens.links (fore_state f w.answers_got w.answers_sent) (record { running = a.unended; over = a.ended }))
+      subst (AnswerMoved x.event.happens.links (fore_state f w.answers_got w.answers_sent)) (sym x.event.happens.is)
+      (answering_moves (known_by f) f.asked x.event.happens.links (fore_state f w.answers_got w.answers_sent) (record { running = a.unended; over = a.ended }))
 
   pub answers_got_more : is_none got' ≡ is_none w.answers_got → IsMore w.answers_got got'
   answers_got_more n = more_got w.answers_got got' n answers_moved.got
 
   pub answers_sent_more : is_none sent' ≡ is_none w.answers_sent → IsMore w.answers_sent sent'
-  answers_sent_more n = more_sent f.over f.whole x.fore.over x.fore.whole w.answers_sent sent' n (sent_part x.happens.links.has_room _ _ answers_moved.sent)
+  answers_sent_more n = more_sent f.over f.whole x.fore.over x.fore.whole w.answers_sent sent' n (sent_part x.event.happens.links.has_room _ _ answers_moved.sent)
 
   pub still_answering : IsAnswering i x.fore (record w { answers_got = got'; answers_sent = sent' })
   still_answering = record {
-    summary = subst (KnowsEpoch i) (sym x.same.summary) a.summary;
+    summary = subst (KnowsEpoch i) (sym x.event.same.summary) a.summary;
     asking = a.asking;
     got = a.got;
     sent = a.sent;
     over = a.over;
-    asked = a.asked ∙ sym x.same.asked;
-    asks = λ t. subst (λ s. AsksSent i.first (known s) a.asking) (sym x.same.summary) (a.asks t);
+    asked = a.asked ∙ sym x.event.same.asked;
+    asks = λ t. subst (λ s. AsksSent i.first (known s) a.asking) (sym x.event.same.summary) (a.asks t);
     ends = a.ends;
     noted = a.noted;
     noted_is = a.noted_is;
-    keeps = x.keeps;
-    reached = x.reached i.first a.asking.is_whole a.noted a.reached;
-    sends = x.sends i.first a.asking.is_whole a.noted a.reached;
+    keeps = x.event.keeps;
+    reached = later;
+    sends = reached_sends x.fore got' sent' i.first a.asking.is_whole a.noted later;
     unended = answers_moved.fits.running;
     ended = answers_moved.fits.over;
-  }
+  } where
+    later : ForeReached i.first a.noted a.asking.is_whole x.fore got' sent'
+    later = fore_reached f x.fore w.answers_got w.answers_sent got' sent' turn i.first a.asking.is_whole a.noted x.event.happens x.event.same a.reached
 
 -- ---- at the end
 

@@ -22,12 +22,13 @@ use Rattle.pass_parts.specs.declared.requests.Request.{Request}
 use Rattle.pass_parts.specs.Ends.{got_by, sent_by, fresh_end}
 use Rattle.pass_parts.specs.Known.{known}
 use Rattle.pass_parts.specs.Requests.{locations}
+use Rattle.pass_parts.specs.Turns.{OnOver, OnOpen}
 use Rattle.backward_pass.specs.Backward.{BackView, knows, state, begins, Reached}
 use Rattle.forward_pass.specs.Forward.{ForeView, known_by, fore_state, ForeReached}
 use Rattle.epoch_node.specs.Cores.{CoreSetup, StageView, Fresh, Asking, Answering, CoreView, whole_at}
 use Rattle.epoch_node.specs.Keeping.{Traffic, fresh_traffic, HasLinks, IsBegun, IsAsking, requests_if, IsSettled, IsAnswering, AtStage, HasAsked, HasAnswered, MovedAt, Counts, node_by, HasCounted}
-use Rattle.epoch_node.specs.Events.{got_at, sent_at, traffic_after, PhaseTraffic, traffic_at, one_more, BackActs, ForeActs, Acts, Advances}
-use Rattle.epoch_node.proofs.Acting.{unsent_yet}
+use Rattle.epoch_node.specs.Events.{got_at, sent_at, traffic_after, PhaseTraffic, traffic_at, one_more, BackActs, ForeActs, Acts, Advances, counted_by}
+use Rattle.epoch_node.proofs.Acting.{unsent_yet, asks_reached}
 
 -- a count stands still at its type's end, and so does one more
 capped_more : (events moved : ℕ) → events ≡ capped moved → one_more events ≡ capped (moved + 1)
@@ -67,18 +68,18 @@ module _ (i : CoreSetup) (v : BackView) (w : Traffic) (a : IsAsking i v w) (l : 
   abbrev old_asking : AskingState
   old_asking = state v w.asks_got w.asks_sent
 
-  event_whole : (asking_event v.first (knows v) x.happens.links old_asking).is_whole ≡ true
-  event_whole = ap (λ (s : AskingState). s.is_whole) (sym x.happens.is) ∙ t
+  event_whole : (asking_event v.first (knows v) x.event.happens.links old_asking).is_whole ≡ true
+  event_whole = ap (λ (s : AskingState). s.is_whole) (sym x.event.happens.is) ∙ t
 
   whole_back : v.whole ≡ true
-  whole_back = whole_asking_before v.first (knows v) x.happens.links old_asking event_whole
+  whole_back = whole_asking_before v.first (knows v) x.event.happens.links old_asking event_whole
 
   -- in an event that moves
-  asks_counted : is_met (asking_need old_asking) (freed x.happens.links) ≡ true → (moved : ℕ) → HasAsked i v w moved → HasAsked i x.back (record w { asks_got = got'; asks_sent = sent' }) (moved + 1)
+  asks_counted : is_met (asking_need old_asking) (freed x.event.happens.links) ≡ true → (moved : ℕ) → HasAsked i v w moved → HasAsked i x.back (record w { asks_got = got'; asks_sent = sent' }) (moved + 1)
   asks_counted met moved h =
       let count : AskCount old_asking (state x.back got' sent') true =
-      subst₂ (AskCount old_asking) (sym x.happens.is) met (count_asking v.first (knows v) x.happens.links old_asking event_whole) in
-      let sinks : length (knows x.back).sinks ≡ length (knows v).sinks = ap (λ s. length (known s).sinks) x.same.summary in
+      subst₂ (AskCount old_asking) (sym x.event.happens.is) met (count_asking v.first (knows v) x.event.happens.links old_asking event_whole) in
+      let sinks : length (knows x.back).sinks ≡ length (knows v).sinks = ap (λ s. length (known s).sinks) x.event.same.summary in
       let before = got_seen i.last w.asks_got l.asks_got in
       let after = got_seen i.last got' (n ∙ l.asks_got) in
       omega (arith, h, count, sinks, before, after)
@@ -113,19 +114,19 @@ module _ (i : CoreSetup) (f : ForeView) (w : Traffic) (a : IsAnswering i f w) (l
   abbrev old_answering : AnsweringState
   old_answering = fore_state f w.answers_got w.answers_sent
 
-  answer_whole : (answering_event (known_by f) f.asked x.happens.links old_answering).is_whole ≡ true
-  answer_whole = ap (λ (s : AnsweringState). s.is_whole) (sym x.happens.is) ∙ t
+  answer_whole : (answering_event (known_by f) f.asked x.event.happens.links old_answering).is_whole ≡ true
+  answer_whole = ap (λ (s : AnsweringState). s.is_whole) (sym x.event.happens.is) ∙ t
 
   whole_fore : f.whole ≡ true
-  whole_fore = begun_whole (known_by f) f.asked (x.happens.links ∷ []) old_answering answer_whole
+  whole_fore = begun_whole (known_by f) f.asked (x.event.happens.links ∷ []) old_answering answer_whole
 
   -- in an event that moves
-  answers_counted : is_met (answering_need (known_by f) f.asked old_answering) (freed x.happens.links) ≡ true → (moved : ℕ) → HasAnswered i f w moved
+  answers_counted : is_met (answering_need (known_by f) f.asked old_answering) (freed x.event.happens.links) ≡ true → (moved : ℕ) → HasAnswered i f w moved
       → HasAnswered i x.fore (record w { answers_got = got'; answers_sent = sent' }) (moved + 1)
   answers_counted met moved h =
       let count : AnswerCount old_answering (fore_state x.fore got' sent') true =
-      subst₂ (AnswerCount old_answering) (sym x.happens.is) met (count_answering (known_by f) f.asked x.happens.links old_answering answer_whole) in
-      let sinks : length (known_by x.fore).sinks ≡ length (known_by f).sinks = ap (λ s. length (known s).sinks) x.same.summary in
+      subst₂ (AnswerCount old_answering) (sym x.event.happens.is) met (count_answering (known_by f) f.asked x.event.happens.links old_answering answer_whole) in
+      let sinks : length (known_by x.fore).sinks ≡ length (known_by f).sinks = ap (λ s. length (known s).sinks) x.event.same.summary in
       let before = got_seen i.first w.answers_got l.answers_got in
       let after = got_seen i.first got' (n ∙ l.answers_got) in
       let left_before : length (locations f.left) ≡ length f.left = length-map f.left (λ (r : Request). r.loc) in
@@ -144,14 +145,14 @@ moved_at : (i : CoreSetup) (s next : StageView) (w : Traffic) (on' : PhaseTraffi
 moved_at i (Fresh t) next w on' l n at x h = let over : pass_turn.Moved ≡ pass_turn.Over = x.2 in cc
 moved_at i (Asking v) next w on' l n at x h =
     let t = ap whole_at (sym x.is) ∙ h in
-    let met = asking_moves_on x.happens.links (state v w.asks_got w.asks_sent) at.running x.happens.could_move.0 x.happens.could_move.1 in
+    let met = asking_moves_on x.event.happens.links (state v w.asks_got w.asks_sent) at.running x.event.happens.could_move.0 x.event.happens.could_move.1 in
     record {
       whole = whole_back i v w at l next on'.got on'.sent pass_turn.Moved x n t;
       more = λ moved m. subst (λ n. MovedAt i n (traffic_after (Asking v) on'.got on'.sent w) (moved + 1)) (sym x.is) (asks_counted i v w at l next on'.got on'.sent pass_turn.Moved x n t met moved m);
     }
 moved_at i (Answering f) next w on' l n at x h =
     let t = ap whole_at (sym x.is) ∙ h in
-    let met = answering_moves_on (known_by f) f.asked x.happens.links (fore_state f w.answers_got w.answers_sent) at.1 x.happens.could_move.0 x.happens.could_move.1 in
+    let met = answering_moves_on (known_by f) f.asked x.event.happens.links (fore_state f w.answers_got w.answers_sent) at.1 x.event.happens.could_move.0 x.event.happens.could_move.1 in
     record {
       whole = whole_fore i f w at.0 l next on'.got on'.sent pass_turn.Moved x n t;
       more = λ moved m. subst (λ n. MovedAt i n (traffic_after (Answering f) on'.got on'.sent w) (moved + 1)) (sym x.is) (answers_counted i f w at.0 l next on'.got on'.sent pass_turn.Moved x n t met moved m);
@@ -172,19 +173,19 @@ over_moved_at i (Asking v) next after w on' l n at x a h =
     let y = subst (λ n. Advances i n after) x.is a in
     let t : x.back.whole ≡ true = sym (ap (λ (f : ForeView). f.whole) y.settled.new) ∙ ap whole_at (sym y.is) ∙ h in
     let met =
-    asking_moves_over v.first (knows v) x.happens.links (state v w.asks_got w.asks_sent) at.running (ap (λ (s : AskingState). s.is_over) (sym x.happens.is) ∙ x.over) in
+    asking_moves_over v.first (knows v) x.event.happens.links (state v w.asks_got w.asks_sent) at.running (ap (λ (s : AskingState). s.is_over) (sym x.event.happens.is) ∙ x.event.over) in
     let traffic : Traffic = record w { asks_got = on'.got; asks_sent = on'.sent } in
     record {
       whole = whole_back i v w at l next on'.got on'.sent pass_turn.Over x n t;
       more = λ moved m. subst (λ n. MovedAt i n traffic (moved + 1)) (sym y.is)
-          (settled_counted i x.back y.fore traffic y.settled x.over t (walked_all x.back on'.got on'.sent x.reached x.over t) (x.keeps.requested t) at.answers_got at.answers_sent (moved + 1)
+          (settled_counted i x.back y.fore traffic y.settled x.event.over t (walked_all x.back on'.got on'.sent (asks_reached i v w at next on'.got on'.sent pass_turn.Over x) x.event.over t) (x.event.keeps.requested t) at.answers_got at.answers_sent (moved + 1)
           (asks_counted i v w at l next on'.got on'.sent pass_turn.Over x n t met moved m));
     }
 over_moved_at i (Answering f) next after w on' l n at x a h =
     let y = subst (λ n. Advances i n after) x.is a in
     let t : x.fore.whole ≡ true = ap whole_at (sym y) ∙ h in
     let met =
-    answering_moves_over (known_by f) f.asked x.happens.links (fore_state f w.answers_got w.answers_sent) at.1 (ap (λ (s : AnsweringState). s.is_over) (sym x.happens.is) ∙ x.over) in
+    answering_moves_over (known_by f) f.asked x.event.happens.links (fore_state f w.answers_got w.answers_sent) at.1 (ap (λ (s : AnsweringState). s.is_over) (sym x.event.happens.is) ∙ x.event.over) in
     record {
       whole = whole_fore i f w at.0 l next on'.got on'.sent pass_turn.Over x n t;
       more = λ moved m. subst (λ n. MovedAt i n (traffic_after (Answering f) on'.got on'.sent w) (moved + 1)) (sym y) (answers_counted i f w at.0 l next on'.got on'.sent pass_turn.Over x n t met moved m);
@@ -208,8 +209,8 @@ module _ (c d : CoreView) (same : d.setup ≡ c.setup) (w w' : Traffic) (after :
 -- where the event did not happen nothing did
 pub still_at : (s next : StageView) (on on' : PhaseTraffic) → Acts s on next on' pass_turn.NotYet → (next ≡ s) × (on' ≡ on)
 still_at (Fresh t) next on on' x = let over : pass_turn.NotYet ≡ pass_turn.Over = x.2 in cc
-still_at (Asking v) next on on' x = (x.is ∙ ap Asking x.not_yet.0, ap₂ (λ g s. record { got = g; sent = s }) x.not_yet.1 x.not_yet.2)
-still_at (Answering f) next on on' x = (x.is ∙ ap Answering x.not_yet.0, ap₂ (λ g s. record { got = g; sent = s }) x.not_yet.1 x.not_yet.2)
+still_at (Asking v) next on on' x = (x.is ∙ ap Asking x.event.not_yet.0, ap₂ (λ g s. record { got = g; sent = s }) x.event.not_yet.1 x.event.not_yet.2)
+still_at (Answering f) next on on' x = (x.is ∙ ap Answering x.event.not_yet.0, ap₂ (λ g s. record { got = g; sent = s }) x.event.not_yet.1 x.event.not_yet.2)
 still_at s next on on' x = absurd x
 
 -- what goes through the links of a phase where nothing more does
@@ -217,32 +218,25 @@ pub traffic_still : (s : StageView) (w : Traffic) → traffic_after s (got_at s 
 traffic_still (Fresh t) w = refl
 traffic_still s w = refl
 
--- the count after an event in which a pass came to this
-abbrev pub counted_by : PassTurn → ℕ → ℕ
-counted_by pass_turn.Moved events = one_more events
-counted_by pass_turn.NotYet events = events
-counted_by pass_turn.Over events = one_more events
-
 module _ (c d : CoreView) (same : d.setup ≡ c.setup) (w : Traffic) (on' : PhaseTraffic) (l : HasLinks c.setup w) (n : is_none on'.got ≡ is_none (got_at c.stage w))
     (at : AtStage c.setup c.stage w) (k : whole_at c.stage ≡ true → Counts c w) (next : StageView) where
-  pub counts_open : (turn : PassTurn) → (turn ≡ pass_turn.Over → ⊥) → Acts c.stage (traffic_at c.stage w) next on' turn → d.stage ≡ next → d.events ≡ counted_by turn c.events
-      → whole_at d.stage ≡ true → Counts d (traffic_after c.stage on'.got on'.sent w)
-  counts_open pass_turn.Moved o x is e = counts_one c d same w (traffic_after c.stage on'.got on'.sent w) next is e k (moved_at c.setup c.stage next w on' l n at x)
-  counts_open pass_turn.NotYet o x is e = λ h.
+  abbrev later : Traffic
+  later = traffic_after c.stage on'.got on'.sent w
+
+  pub counts_at : (turn : PassTurn) → Acts c.stage (traffic_at c.stage w) next on' turn → OnOpen turn (d.stage ≡ next) → OnOver turn (Advances c.setup next d.stage) → d.events ≡ counted_by turn c.events
+      → whole_at d.stage ≡ true → Counts d later
+  counts_at pass_turn.Moved x o a e = counts_one c d same w later next o e k (moved_at c.setup c.stage next w on' l n at x)
+  counts_at pass_turn.NotYet x o a e = λ h.
       let still = still_at c.stage next (traffic_at c.stage w) on' x in
-      let traffic : traffic_after c.stage on'.got on'.sent w ≡ w = ap (λ (o : PhaseTraffic). traffic_after c.stage o.got o.sent w) still.1 ∙ traffic_still c.stage w in
-      let stage = is ∙ still.0 in
+      let traffic : later ≡ w = ap (λ (o : PhaseTraffic). traffic_after c.stage o.got o.sent w) still.1 ∙ traffic_still c.stage w in
+      let stage = o ∙ still.0 in
       let old = k (ap whole_at (sym stage) ∙ h) in
       record {
         moved = old.moved;
-        at_stage = subst₂ (λ i s. MovedAt i s (traffic_after c.stage on'.got on'.sent w) old.moved) (sym same) (sym stage) (subst (λ w. MovedAt c.setup c.stage w old.moved) (sym traffic) old.at_stage);
+        at_stage = subst₂ (λ i s. MovedAt i s later old.moved) (sym same) (sym stage) (subst (λ w. MovedAt c.setup c.stage w old.moved) (sym traffic) old.at_stage);
         is = e ∙ old.is;
       }
-  counts_open pass_turn.Over o x is e = absurd (o refl)
-
-  pub counts_over : Acts c.stage (traffic_at c.stage w) next on' pass_turn.Over → Advances c.setup next d.stage → d.events ≡ one_more c.events
-      → whole_at d.stage ≡ true → Counts d (traffic_after c.stage on'.got on'.sent w)
-  counts_over x a e = counts_one c d same w (traffic_after c.stage on'.got on'.sent w) d.stage refl e k (over_moved_at c.setup c.stage next d.stage w on' l n at x a)
+  counts_at pass_turn.Over x o a e = counts_one c d same w later d.stage refl e k (over_moved_at c.setup c.stage next d.stage w on' l n at x a)
 
 -- ---- at the end
 

@@ -62,20 +62,6 @@ done_at_last old new (next ∷ later) h d =
 pub done_stays : DoneStays
 done_stays new old led done = done_at_last (progress_of old) (progress_of new) led.came.0 led.came.1 done
 
--- after an event the core has begun
-pub begun_by : (i : CoreSetup) (s next : StageView) (got sent got' sent' : Option (List Message)) (answer : Turn) → Steps i s got sent next got' sent' answer → ¬ (phase_of next ≡ phase.Fresh)
-begun_by i (Fresh t) next got sent got' sent' answer x = λ h. let fresh : phase.Asking ≡ phase.Fresh = ap phase_of (sym x.is) ∙ h in cc
-begun_by i (Asking v) next got sent got' sent' answer x = λ h. by x.back.over (ap phase_of (sym x.is) ∙ h) where
-  by : (over : Bool) → phase_of (settled_by over i x.back) ≡ phase.Fresh → ⊥
-  by true h = cc
-  by false h = cc
-begun_by i (Answering f) next got sent got' sent' answer x = λ h. by x.fore.over (ap phase_of (sym x.is) ∙ h) where
-  by : (over : Bool) → phase_of (answered_by over x.fore) ≡ phase.Fresh → ⊥
-  by true h = cc
-  by false h = cc
-begun_by i (Done f) next got sent got' sent' answer x = λ h. let fresh : phase.Done ≡ phase.Fresh = ap phase_of (sym x.is) ∙ h in cc
-begun_by i Between next got sent got' sent' answer x = absurd x
-
 -- ---- how many events moved
 
 counted_on : (answer : Turn) (p : Phase) (events : ℕ) → capped events ≤ counted answer p events

@@ -1,6 +1,7 @@
 -- What an event of the core makes of its node, and what a node has sent.
-use Rattle.std.proofs.Common.{◌≡◌, ◌⊎◌, ⊎_elim, ◌-◌, List, [], ◌∷◌, refl, ap, sym, subst, subst₂, ◌∙◌, Bool, true, false}
+use Rattle.std.proofs.Common.{◌≡◌, ◌-◌, List, [], ◌∷◌, refl, ap, sym, subst, subst₂, ◌∙◌, Bool, true, false}
 use Rattle.std.specs.Prelude.{Option, Some, None, is_none, option_map, IfSome}
+use Rattle.lists.proofs.Tests.{true-false}
 use Rattle.flow_model.specs.declared.Loc.{Loc}
 use Rattle.flow_model.specs.declared.Message.{Message}
 use Rattle.epoch_link.specs.Link.{EndView}
@@ -14,12 +15,11 @@ use Rattle.run_board.specs.declared.task.Turn.{Turn}
 use Rattle.pass_parts.specs.Ends.{through, IsEndFrom, got_by, sent_by, fresh_end}
 use Rattle.backward_pass.specs.Backward.{BackView, knows}
 use Rattle.forward_pass.specs.Forward.{ForeView, known_by}
-use Rattle.epoch_node.specs.declared.stage.Phase.TheVariants as phase
 use Rattle.epoch_node.specs.declared.ends.Ends.{Ends}
-use Rattle.epoch_node.specs.Cores.{CoreSetup, StageView, Fresh, Asking, Answering, Done, Between, CoreView, phase_of, whole_at, asked_at}
+use Rattle.epoch_node.specs.Cores.{CoreSetup, StageView, Fresh, Asking, Answering, Done, Between, CoreView, phase_of, uses_asks, whole_at, asked_at}
 use Rattle.epoch_node.specs.Keeping.{Traffic, HasLinks, IsOfEpoch, IsAsking, IsAnswering, AtStage, KeepsCore}
-use Rattle.epoch_node.specs.Events.{got_at, sent_at, traffic_after, phase_traffic, IsMore, IsEvent}
-use Rattle.epoch_node.specs.Nodes.{traffic_of, Progress, HasEvent, IsEndLater, later_refl, IsInletLater, IsOutletLater, IsLedFrom, SendsDue}
+use Rattle.epoch_node.specs.Events.{traffic_after, PhaseTraffic, phase_traffic, traffic_at, IsMore, IsEvent}
+use Rattle.epoch_node.specs.Nodes.{traffic_of, Progress, HasEvent, IsEndLater, later_refl, IsInletLater, IsOutletLater, AreEndsLater, IsLedFrom, SendsDue}
 use Rattle.epoch_node.proofs.Acting.{began_whole}
 
 -- ---- later
@@ -30,99 +30,58 @@ module _ {E : Type 0} (end : E → EndView Message) where
   later_end (Some n) (Some o) h m = (h.link, m)
   later_end new old h m = absurd h
 
-inlet_same : (c : Option (Consuming Message)) → IsInletLater c c
-inlet_same c = later_refl consumer_end c
-
-outlet_same : (p : Option (Producing Message)) → IsOutletLater p p
-outlet_same p = later_refl producer_end p
-
 -- ---- an event on the links of its phase
 
--- these are the links of the asks
-record AreAsks (s : StageView) (w : Traffic) : Type 0 where
-  got : got_at s w ≡ w.asks_got
-  sent : sent_at s w ≡ w.asks_sent
-  traffic : (got sent : Option (List Message)) → traffic_after s got sent w ≡ record w { asks_got = got; asks_sent = sent }
+-- the ends of the asks, or else those of the answers
+abbrev pub inlet_of : Bool → Ends → Option (Consuming Message)
+inlet_of true e = e.ask_in
+inlet_of false e = e.answer_in
 
-are_asks : (s : StageView) (w : Traffic) → (phase_of s ≡ phase.Fresh) ⊎ (phase_of s ≡ phase.Asking) → AreAsks s w
-are_asks (Fresh t) w h = record { got = refl; sent = refl; traffic = λ g s. refl }
-are_asks (Asking v) w h = record { got = refl; sent = refl; traffic = λ g s. refl }
-are_asks s w h = ⊎_elim (λ (e : phase_of s ≡ phase.Fresh). cc) (λ (e : phase_of s ≡ phase.Asking). cc) h
+abbrev pub outlet_of : Bool → Ends → Option (Producing Message)
+outlet_of true e = e.ask_out
+outlet_of false e = e.answer_out
 
--- these are the links of the answers
-record AreAnswers (s : StageView) (w : Traffic) : Type 0 where
-  got : got_at s w ≡ w.answers_got
-  sent : sent_at s w ≡ w.answers_sent
-  traffic : (got sent : Option (List Message)) → traffic_after s got sent w ≡ record w { answers_got = got; answers_sent = sent }
+abbrev pub with_ends : Bool → Ends → Option (Consuming Message) → Option (Producing Message) → Ends
+with_ends true e inlet outlet = record e { ask_in = inlet; ask_out = outlet }
+with_ends false e inlet outlet = record e { answer_in = inlet; answer_out = outlet }
 
-are_answers : (s : StageView) (w : Traffic) → phase_of s ≡ phase.Answering → AreAnswers s w
-are_answers (Answering f) w e = record { got = refl; sent = refl; traffic = λ g s. refl }
-are_answers s w e = cc
+-- these are the links of the phase
+record AreLinks (b : Bool) (s : StageView) (e : Ends) : Type 0 where
+  on : traffic_at s (traffic_of e) ≡ phase_traffic consumer_end producer_end (inlet_of b e) (outlet_of b e)
+  traffic : (inlet : Option (Consuming Message)) (outlet : Option (Producing Message)) → traffic_after s (through consumer_end inlet) (through producer_end outlet) (traffic_of e) ≡ traffic_of (with_ends b e inlet outlet)
 
-module _ (c d : CoreView) (e : Ends) (inlet : Option (Consuming Message)) (outlet : Option (Producing Message)) (answer : Turn) where
-  -- after an event on the links of the asks
-  pub asks_lead : (phase_of c.stage ≡ phase.Fresh) ⊎ (phase_of c.stage ≡ phase.Asking)
-      → IsEvent c (phase_traffic consumer_end producer_end e.ask_in e.ask_out) d (phase_traffic consumer_end producer_end inlet outlet) answer
-      → IsEndFrom consumer_end inlet e.ask_in → IsEndFrom producer_end outlet e.ask_out
-      → IsLedFrom (record { core = d; ends = record e { ask_in = inlet; ask_out = outlet } }) (record { core = c; ends = e })
-  asks_lead h x i o =
-      let are = are_asks c.stage (traffic_of e) h in
-      let after : Progress = record { core = d; traffic = record (traffic_of e) { asks_got = through consumer_end inlet; asks_sent = through producer_end outlet } } in
+are_links : (b : Bool) (s : StageView) (e : Ends) → uses_asks (phase_of s) ≡ b → AreLinks b s e
+are_links true (Fresh t) e h = record { on = refl; traffic = λ i o. refl }
+are_links true (Asking v) e h = record { on = refl; traffic = λ i o. refl }
+are_links true s e h = true-false (sym h)
+are_links false (Fresh t) e h = true-false h
+are_links false (Asking v) e h = true-false h
+are_links false s e h = record { on = refl; traffic = λ i o. refl }
+
+module _ (b : Bool) (c d : CoreView) (e : Ends) (inlet : Option (Consuming Message)) (outlet : Option (Producing Message)) (answer : Turn) (uses : uses_asks (phase_of c.stage) ≡ b)
+    (x : IsEvent c (phase_traffic consumer_end producer_end (inlet_of b e) (outlet_of b e)) d (phase_traffic consumer_end producer_end inlet outlet) answer) where
+  are : AreLinks b c.stage e
+  are = are_links b c.stage e uses
+
+  pub event_leads : IsEndFrom consumer_end inlet (inlet_of b e) → IsEndFrom producer_end outlet (outlet_of b e)
+      → IsLedFrom (record { core = d; ends = with_ends b e inlet outlet }) (record { core = c; ends = e })
+  event_leads i o =
+      let after : Progress = record { core = d; traffic = traffic_of (with_ends b e inlet outlet) } in
       let event : HasEvent (record { core = c; traffic = traffic_of e }) after = record {
         on = phase_traffic consumer_end producer_end inlet outlet;
         answer = answer;
-        event = subst₂ (λ g s. IsEvent c (record { got = g; sent = s }) d (phase_traffic consumer_end producer_end inlet outlet) answer) (sym are.got) (sym are.sent) x;
-        traffic = sym (are.traffic (through consumer_end inlet) (through producer_end outlet));
+        event = subst (λ on. IsEvent c on d (phase_traffic consumer_end producer_end inlet outlet) answer) (sym are.on) x;
+        traffic = sym (are.traffic inlet outlet);
       } in
-      record {
-        setup = x.setup;
-        ends = record {
-          ask_in = later_end consumer_end inlet e.ask_in i x.more_got;
-          ask_out = later_end producer_end outlet e.ask_out o x.more_sent;
-          answer_in = inlet_same e.answer_in;
-          answer_out = outlet_same e.answer_out;
-        };
-        came = (after ∷ [], (event, refl));
-      }
+      record { setup = x.setup; ends = by b (later_end consumer_end inlet (inlet_of b e) i x.more_got) (later_end producer_end outlet (outlet_of b e) o x.more_sent); came = (after ∷ [], (event, refl)) }
+    where
+      by : (b : Bool) → IsInletLater inlet (inlet_of b e) → IsOutletLater outlet (outlet_of b e) → AreEndsLater (with_ends b e inlet outlet) e
+      by true i o = record { ask_in = i; ask_out = o; answer_in = later_refl consumer_end e.answer_in; answer_out = later_refl producer_end e.answer_out }
+      by false i o = record { ask_in = later_refl consumer_end e.ask_in; ask_out = later_refl producer_end e.ask_out; answer_in = i; answer_out = o }
 
-  pub asks_keep : (phase_of c.stage ≡ phase.Fresh) ⊎ (phase_of c.stage ≡ phase.Asking)
-      → IsEvent c (phase_traffic consumer_end producer_end e.ask_in e.ask_out) d (phase_traffic consumer_end producer_end inlet outlet) answer
-      → KeepsCore c (traffic_of e) → KeepsCore d (traffic_of (record e { ask_in = inlet; ask_out = outlet }))
-  asks_keep h x k =
-      let are = are_asks c.stage (traffic_of e) h in
-      subst (KeepsCore d) (are.traffic (through consumer_end inlet) (through producer_end outlet)) (x.keeps (traffic_of e) are.got are.sent k)
-
-  -- after one on those of the answers
-  pub answers_lead : phase_of c.stage ≡ phase.Answering
-      → IsEvent c (phase_traffic consumer_end producer_end e.answer_in e.answer_out) d (phase_traffic consumer_end producer_end inlet outlet) answer
-      → IsEndFrom consumer_end inlet e.answer_in → IsEndFrom producer_end outlet e.answer_out
-      → IsLedFrom (record { core = d; ends = record e { answer_in = inlet; answer_out = outlet } }) (record { core = c; ends = e })
-  answers_lead h x i o =
-      let are = are_answers c.stage (traffic_of e) h in
-      let after : Progress = record { core = d; traffic = record (traffic_of e) { answers_got = through consumer_end inlet; answers_sent = through producer_end outlet } } in
-      let event : HasEvent (record { core = c; traffic = traffic_of e }) after = record {
-        on = phase_traffic consumer_end producer_end inlet outlet;
-        answer = answer;
-        event = subst₂ (λ g s. IsEvent c (record { got = g; sent = s }) d (phase_traffic consumer_end producer_end inlet outlet) answer) (sym are.got) (sym are.sent) x;
-        traffic = sym (are.traffic (through consumer_end inlet) (through producer_end outlet));
-      } in
-      record {
-        setup = x.setup;
-        ends = record {
-          ask_in = inlet_same e.ask_in;
-          ask_out = outlet_same e.ask_out;
-          answer_in = later_end consumer_end inlet e.answer_in i x.more_got;
-          answer_out = later_end producer_end outlet e.answer_out o x.more_sent;
-        };
-        came = (after ∷ [], (event, refl));
-      }
-
-  pub answers_keep : phase_of c.stage ≡ phase.Answering
-      → IsEvent c (phase_traffic consumer_end producer_end e.answer_in e.answer_out) d (phase_traffic consumer_end producer_end inlet outlet) answer
-      → KeepsCore c (traffic_of e) → KeepsCore d (traffic_of (record e { answer_in = inlet; answer_out = outlet }))
-  answers_keep h x k =
-      let are = are_answers c.stage (traffic_of e) h in
-      subst (KeepsCore d) (are.traffic (through consumer_end inlet) (through producer_end outlet)) (x.keeps (traffic_of e) are.got are.sent k)
+  pub event_keeps : KeepsCore c (traffic_of e) → KeepsCore d (traffic_of (with_ends b e inlet outlet))
+  event_keeps k =
+      subst (KeepsCore d) (are.traffic inlet outlet) (x.keeps (traffic_of e) (ap (λ (o : PhaseTraffic). o.got) are.on) (ap (λ (o : PhaseTraffic). o.sent) are.on) k)
 
 -- ---- what is sent
 

@@ -63,6 +63,13 @@ phase_of (Answering f) = phase.Answering
 phase_of (Done f) = phase.Done
 phase_of Between = phase.Done
 
+-- the links of the phase are those of the asks, and not those of the answers
+abbrev pub uses_asks : Phase → Bool
+uses_asks phase.Fresh = true
+uses_asks phase.Asking = true
+uses_asks phase.Answering = false
+uses_asks phase.Done = false
+
 abbrev pub new_core : CoreSetup → CoreView
 new_core i = record { setup = i; stage = Fresh i.epoch; events = 0 }
 

@@ -1,6 +1,5 @@
 -- What an event of a core does.
 use Rattle.std.specs.Prelude.{◌≡◌, ℕ, ◌+◌, Bool, true, false, Option, Some, None, is_none, List}
-use Rattle.flow_model.specs.declared.Loc.{Loc}
 use Rattle.epoch_link.specs.Link.{EndView}
 use Rattle.flow_model.specs.declared.Message.{Message}
 use Rattle.sink_collect.specs.Pairs.{capped}
@@ -15,9 +14,10 @@ use Rattle.pass_parts.specs.declared.pass_turn.PassTurn.{PassTurn}
 use Rattle.pass_parts.specs.declared.pass_turn.PassTurn.TheVariants as pass_turn
 use Rattle.pass_parts.specs.Ends.{through, got_by}
 use Rattle.pass_parts.specs.Requests.{locations}
-use Rattle.pass_parts.specs.Turns.{OnOver, OnOpen, OnNotYet, Waits}
-use Rattle.backward_pass.specs.Backward.{BackView, knows, state, Keeps, Reached, SendsFor, IsSameBack, Happens}
-use Rattle.forward_pass.specs.Forward.{ForeView, new_fore, known_by, fore_state, ForeKeeps, ForeReached, ForeSends, IsSameFore, ForeHappens}
+use Rattle.pass_parts.specs.Turns.{OnOver, OnOpen, Waits}
+use Rattle.pass_parts.specs.Events.{IsEvent as IsPassEvent}
+use Rattle.backward_pass.specs.Backward.{BackView, knows, state, Keeps, IsSameBack, backwards, Happens}
+use Rattle.forward_pass.specs.Forward.{ForeView, new_fore, known_by, fore_state, ForeKeeps, IsSameFore, forwards, ForeHappens}
 use Rattle.epoch_node.specs.declared.stage.Phase.{Phase}
 use Rattle.epoch_node.specs.declared.stage.Phase.TheVariants as phase
 use Rattle.epoch_node.specs.Cores.{CoreSetup, StageView, Fresh, Asking, Answering, Done, Between, CoreView, phase_of, CanStart}
@@ -208,7 +208,7 @@ pub record IsEvent (old : CoreView) (on : PhaseTraffic) (new : CoreView) (on' : 
 -- what the pass of a stage needs
 abbrev pub CanAct : StageView → PhaseTraffic → Type 0
 CanAct (Fresh t) on = Unit {0}
-CanAct (Asking v) on = Keeps v on.got on.sent × Reached v on.got on.sent
+CanAct (Asking v) on = Keeps v on.got on.sent
 CanAct (Answering f) on = ForeKeeps f on.got on.sent
 CanAct (Done f) on = ⊥
 CanAct Between on = ⊥
@@ -217,27 +217,13 @@ CanAct Between on = ⊥
 pub record BackActs (v : BackView) (got sent : Option (List Message)) (next : StageView) (got' sent' : Option (List Message)) (turn : PassTurn) : Type 0 where
   pub back : BackView
   pub is : next ≡ Asking back
-  pub happens : Happens v got sent back got' sent' turn
-  pub keeps : Keeps back got' sent'
-  pub reached : Reached back got' sent'
-  pub sends : SendsFor back got' sent'
-  pub same : IsSameBack back v
-  pub over : OnOver turn (back.over ≡ true)
-  pub running : OnOpen turn (back.over ≡ false)
-  pub not_yet : OnNotYet turn ((back ≡ v) × (got' ≡ got) × (sent' ≡ sent))
+  pub event : IsPassEvent backwards v got sent back got' sent' turn
 
 -- the pass forwards has its event
 pub record ForeActs (f : ForeView) (got sent : Option (List Message)) (next : StageView) (got' sent' : Option (List Message)) (turn : PassTurn) : Type 0 where
   pub fore : ForeView
   pub is : next ≡ Answering fore
-  pub happens : ForeHappens f got sent fore got' sent' turn
-  pub keeps : ForeKeeps fore got' sent'
-  pub reached : (first whole : Bool) (requests : List Loc) → ForeReached first requests whole f got sent → ForeReached first requests whole fore got' sent'
-  pub sends : (first whole : Bool) (requests : List Loc) → ForeReached first requests whole f got sent → ForeSends requests fore got' sent'
-  pub same : IsSameFore fore f
-  pub over : OnOver turn (fore.over ≡ true)
-  pub running : OnOpen turn (fore.over ≡ false)
-  pub not_yet : OnNotYet turn ((fore ≡ f) × (got' ≡ got) × (sent' ≡ sent))
+  pub event : IsPassEvent forwards f got sent fore got' sent' turn
 
 abbrev pub Acts : StageView → PhaseTraffic → StageView → PhaseTraffic → PassTurn → Type 0
 Acts (Fresh t) on next on' turn = (next ≡ Fresh t) × (on' ≡ on) × (turn ≡ pass_turn.Over)
@@ -271,3 +257,26 @@ Advances i (Asking v) next = BeginsToAnswer i v next
 Advances i (Answering f) next = next ≡ Done f
 Advances i (Done f) next = ⊥
 Advances i Between next = ⊥
+
+-- the answer of an event in which the pass came to this, and the core to this phase: the pass forwards is the last
+abbrev pub turn_after : PassTurn → Phase → Turn
+turn_after pass_turn.Moved p = turn.Moved
+turn_after pass_turn.NotYet p = turn.NotYet
+turn_after pass_turn.Over phase.Fresh = turn.Moved
+turn_after pass_turn.Over phase.Asking = turn.Moved
+turn_after pass_turn.Over phase.Answering = turn.Moved
+turn_after pass_turn.Over phase.Done = turn.Done
+
+-- the count after it
+abbrev pub counted_by : PassTurn → ℕ → ℕ
+counted_by pass_turn.Moved events = one_more events
+counted_by pass_turn.NotYet events = events
+counted_by pass_turn.Over events = one_more events
+
+-- the pass came to this, and its core goes on from there: where the pass is over, to the next stage
+pub record GoesOn (came_to : PassTurn) (old new : CoreView) (answer : Turn) : Type 0 where
+  pub setup : new.setup ≡ old.setup
+  pub stays : OnOpen came_to (new.stage ≡ old.stage)
+  pub advances : OnOver came_to (Advances old.setup old.stage new.stage)
+  pub count : new.events ≡ counted_by came_to old.events
+  pub answered : answer ≡ turn_after came_to (phase_of new.stage)

@@ -128,11 +128,10 @@ impl<'a, G> Node<'a, G> {
             answer_in,
             answer_out,
         } = ends;
-        match core.phase() {
-            Phase::Fresh => core.step(ask_in, ask_out),
-            Phase::Asking => core.step(ask_in, ask_out),
-            Phase::Answering => core.step(answer_in, answer_out),
-            Phase::Done => Turn::Done,
+        if core.phase().uses_asks() {
+            core.step(ask_in, ask_out)
+        } else {
+            core.step(answer_in, answer_out)
         }
     }
 
@@ -144,9 +143,6 @@ impl<'a, G> Node<'a, G> {
         ensures moved { WhenMoved result (HasMoved self.new self.old) }
         ensures not_yet { WhenNotYet result (HasWaited self.new self.old) }
     {
-        if self.core.phase() == Phase::Done {
-            return Turn::Done;
-        }
         for event in 0..MOST_EVENTS {
             match self.step() {
                 Turn::Moved => {}

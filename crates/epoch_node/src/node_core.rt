@@ -2,9 +2,10 @@
 
 ghost use Rattle.std.specs.Prelude.{◌≡◌, is_ok, IfOk, IfSome};
 ghost use Rattle.pass_parts.specs.Ends.{IsEndFrom, IsRefused};
+ghost use Rattle.pass_parts.specs.Turns.{OnOver};
 ghost use Rattle.epoch_node.specs.Cores.{core_of, stage_of, new_core, phase_of, whole_at, asked_at, CanStart};
 ghost use Rattle.epoch_node.specs.Keeping.{Traffic, KeepsCore, HasDone, HasCounted, fresh_traffic};
-ghost use Rattle.epoch_node.specs.Events.{phase_traffic, IsReady, IsEvent, WaitsAt, WhenNotYet, one_more, CanAdvance, Advances};
+ghost use Rattle.epoch_node.specs.Events.{phase_traffic, IsReady, IsEvent, WaitsAt, WhenNotYet, one_more, CanAdvance, Advances, GoesOn};
 
 use crate::beginning::begin;
 use crate::settling::settle;
@@ -201,6 +202,30 @@ impl<'a, G> Core<'a, G> {
         drop(mem::replace(&mut *self.stage, next));
     }
 
+    /// Goes on after an event in which the pass came to this: one that happened is counted, and where the pass is over the
+    /// next phase begins. It gives the answer of the event.
+    fn go_on(&mut self, came_to: PassTurn) -> Turn
+        requires { OnOver came_to (CanAdvance (core_of self.old).setup (core_of self.old).stage) }
+        ensures { GoesOn came_to (core_of self.old) (core_of self.new) result }
+    {
+        match came_to {
+            PassTurn::Moved => {
+                self.count();
+                Turn::Moved
+            }
+            PassTurn::NotYet => Turn::NotYet,
+            PassTurn::Over => {
+                self.advance();
+                self.count();
+                if self.phase() == Phase::Done {
+                    Turn::Done
+                } else {
+                    Turn::Moved
+                }
+            }
+        }
+    }
+
     /// The same as `event`, in a core that has entered the gate where it begins. What a task's turn calls may have no
     /// bound on a gate.
     pub(crate) fn step<I: Inlet<Message>, O: Outlet<Message>>(
@@ -220,22 +245,8 @@ impl<'a, G> Core<'a, G> {
         if self.phase() == Phase::Done {
             return Turn::Done;
         }
-        match self.stage.act(inlet, outlet) {
-            PassTurn::Moved => {
-                self.count();
-                Turn::Moved
-            }
-            PassTurn::NotYet => Turn::NotYet,
-            PassTurn::Over => {
-                self.advance();
-                self.count();
-                if self.phase() == Phase::Done {
-                    Turn::Done
-                } else {
-                    Turn::Moved
-                }
-            }
-        }
+        let came_to = self.stage.act(inlet, outlet);
+        self.go_on(came_to)
     }
 
     /// Makes the rows of the epoch's sinks, if they are due in a core that is done. It needs nothing of other nodes, and

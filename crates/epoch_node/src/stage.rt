@@ -4,7 +4,7 @@ ghost use Rattle.std.specs.Prelude.{◌≡◌, None, IfSome};
 ghost use Rattle.pass_parts.specs.Ends.{IsEndFrom, IsRefused};
 ghost use Rattle.pass_parts.specs.Turns.{OnNotYet};
 ghost use Rattle.forward_pass.specs.Forward.{fore_of};
-ghost use Rattle.epoch_node.specs.Cores.{stage_of, phase_of, StageView as view};
+ghost use Rattle.epoch_node.specs.Cores.{stage_of, phase_of, uses_asks, StageView as view};
 ghost use Rattle.epoch_node.specs.Events.{phase_traffic, CanAct, Acts, WaitsAt};
 
 use backward_pass::Back;
@@ -25,6 +25,20 @@ pub enum Phase {
     Answering,
     /// Its last End is sent.
     Done,
+}
+
+impl Phase {
+    /// Whether the links of the phase are those of the asks, and not those of the answers.
+    pub(crate) fn uses_asks(self) -> bool
+        ensures { result ≡ uses_asks self }
+    {
+        match self {
+            Phase::Fresh => true,
+            Phase::Asking => true,
+            Phase::Answering => false,
+            Phase::Done => false,
+        }
+    }
 }
 
 /// The phase, with what a node has then.
