@@ -44,15 +44,13 @@ sends_for v got sent r = λ w. by w v.summary refl where
       let same = r.is ∙ ap (λ s. asking_after v.first (knows v) r.schedule (begun (is_none s) v.last (knows v))) is in
       subst (AsksSent v.first (knows v)) (sym same) (asking_sends v.first v.last (knows v) r.schedule (sym (ap (λ (a : Asking). a.is_whole) same) ∙ w))
 
-pub reached_new : (s : Option Summary) (first last : Bool) → Reached (new_back s first last) (fresh_end last) (fresh_end first)
-reached_new None true true = record { schedule = []; is = refl }
-reached_new None true false = record { schedule = []; is = refl }
-reached_new None false true = record { schedule = []; is = refl }
-reached_new None false false = record { schedule = []; is = refl }
-reached_new (Some s) true true = record { schedule = []; is = refl }
-reached_new (Some s) true false = record { schedule = []; is = refl }
-reached_new (Some s) false true = record { schedule = []; is = refl }
-reached_new (Some s) false false = record { schedule = []; is = refl }
+-- a pass that is new stands where the definitions begin
+pub begins_state : (s : Option Summary) (first last : Bool) → state (new_back s first last) (fresh_end last) (fresh_end first) ≡ begun (is_none s) last (known s)
+begins_state None true true = refl
+begins_state None false true = refl
+begins_state (Some s) true true = refl
+begins_state (Some s) false true = refl
+begins_state s first last = refl
 
 pub reached_made : (s : Option Summary) (first last : Bool) (v : BackView) → v ≡ new_back s first last → Reached v (fresh_end last) (fresh_end first)
-reached_made s first last v e = subst (λ v. Reached v (fresh_end last) (fresh_end first)) (sym e) (reached_new s first last)
+reached_made s first last v e = subst (λ v. Reached v (fresh_end last) (fresh_end first)) (sym e) (record { schedule = []; is = begins_state s first last })
