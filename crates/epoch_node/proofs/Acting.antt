@@ -11,8 +11,6 @@ use Rattle.stream_model.specs.Streams.{is_ended, requests, heard, asked_of, asks
 use Rattle.stream_model.specs.StreamLaws.{IsPrefix}
 use Rattle.stream_model.specs.Passes.{Answering as AnsweringState, answering_start, rows_or_none}
 use Rattle.stream_model.specs.PassLaws.{AsksSent, AnswersSent}
-use Rattle.stream_model.specs.Schedules.{begun}
-use Rattle.epoch_summary.specs.declared.summary.Summary.{Summary}
 use Rattle.stream_model.proofs.Moving.{sent_part, IsGot, AskMoved, asking_moves, AnswerMoved, answering_moves}
 use Rattle.stream_model.proofs.Passing.{begun_whole}
 use denote.Enum.Bare.{sameb, same_true, same_false}
@@ -20,7 +18,7 @@ use Rattle.pass_parts.specs.declared.pass_turn.PassTurn.{PassTurn}
 use Rattle.pass_parts.specs.Ends.{through, IsEndFrom, got_by, sent_by, fresh_end}
 use Rattle.pass_parts.specs.Known.{known}
 use Rattle.pass_parts.specs.Requests.{locations}
-use Rattle.backward_pass.specs.Backward.{BackView, new_back, knows, state, Reached}
+use Rattle.backward_pass.specs.Backward.{BackView, knows, state, Reached}
 use Rattle.backward_pass.proofs.Reaching.{reached_next, sends_for}
 use Rattle.forward_pass.specs.Forward.{ForeView, known_by, fore_state, ForeKeeps, ForeReached}
 use Rattle.forward_pass.proofs.Reaching.{reached_next as fore_reached, reached_sends}
@@ -74,14 +72,6 @@ unsent_yet false w true e = refl
 unsent_yet false w false e = refl
 
 -- ---- the pass backwards
-
--- a pass that is new stands where the definitions begin
-pub begins_state : (s : Option Summary) (first last : Bool) → state (new_back s first last) (fresh_end last) (fresh_end first) ≡ begun (is_none s) last (known s)
-begins_state None true true = refl
-begins_state None false true = refl
-begins_state (Some s) true true = refl
-begins_state (Some s) false true = refl
-begins_state s first last = refl
 
 -- what is not over has only part of what is to be sent
 pub begun_asking : (i : CoreSetup) (v : BackView) → IsBegun i v → IsAsking i v (fresh_traffic i.first i.last)

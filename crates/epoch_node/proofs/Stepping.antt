@@ -10,6 +10,7 @@ use Rattle.run_board.specs.Turns.{AnswersEnded}
 use Rattle.pass_parts.specs.Ends.{fresh_end}
 use Rattle.pass_parts.specs.Turns.{OnOver, OnOpen, OnNotYet}
 use Rattle.backward_pass.specs.Backward.{state, Keeps}
+use Rattle.backward_pass.proofs.Reaching.{begins_state}
 use Rattle.forward_pass.specs.Forward.{ForeKeeps}
 use Rattle.epoch_node.specs.declared.stage.Phase.{Phase}
 use Rattle.epoch_node.specs.declared.stage.Phase.TheVariants as phase
@@ -17,7 +18,7 @@ use Rattle.epoch_node.specs.declared.stage.Stage.{Stage}
 use Rattle.epoch_node.specs.Cores.{CoreSetup, stage_of, StageView, Fresh, Asking, Answering, Done, Between, CoreView, phase_of}
 use Rattle.epoch_node.specs.Keeping.{Traffic, fresh_traffic, HasLinks, AtStage, KeepsCore}
 use Rattle.epoch_node.specs.Events.{got_at, sent_at, traffic_after, PhaseTraffic, traffic_at, IsReady, IsMore, settled_by, answered_by, asks_turn, answers_turn, Steps, WhenNotYet, counted, IsEvent, CanAct, Acts, CanAdvance, Advances, turn_after, counted_by, GoesOn}
-use Rattle.epoch_node.proofs.Acting.{begins_state, more_still, begun_asking, can_settle, asks_got_more, asks_sent_more, still_asking, begins_to_answer, answers_got_more, answers_sent_more, still_answering}
+use Rattle.epoch_node.proofs.Acting.{more_still, begun_asking, can_settle, asks_got_more, asks_sent_more, still_asking, begins_to_answer, answers_got_more, answers_sent_more, still_answering}
 use Rattle.epoch_node.proofs.Counting.{still_at, traffic_still, counts_at}
 
 pub acts_of : {s t : Stage} → s ≡ t → (next : StageView) (on on' : PhaseTraffic) (turn : PassTurn) → Acts (stage_of s) on next on' turn → Acts (stage_of t) on next on' turn

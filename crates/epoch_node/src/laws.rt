@@ -10,11 +10,13 @@ pub fn events_are_of_nodes()
 {}
 
 /// A node that is broken stays broken, whatever turns it has.
+#[tactic(auto, using(crate::proofs::Led::broken_stays))]
 pub fn broken_nodes_stay_broken()
     ensures { BrokenStays }
 {}
 
 /// A node that is done stays done, whatever turns it has.
+#[tactic(auto, using(crate::proofs::Led::done_stays))]
 pub fn done_nodes_stay_done()
     ensures { DoneStays }
 {}
