@@ -88,22 +88,15 @@ given_there id f (r ∷ rows) e =
 
 -- ---- what a row of an id holds
 
--- each row of the id has this property, where all rows fit
-abbrev IsOf : List Rule → Text → (List Text → Reading → Type 0) → Type 0
-IsOf c id Q = (values : List Text) (how : Reading) → list_any (λ a. bytes_eq a.id id && fits a values how) c ≡ true → Q values how
-
-of_row : (c : List Rule) (id : Text) (Q : List Text → Reading → Type 0) → IsOf c id Q → (r : Row) → bytes_eq r.id id ≡ true → row_fits c r ≡ true → Q r.values r.reading
-of_row c id Q of r same fit =
-    of r.values r.reading (subst (λ t. list_any (λ a. bytes_eq a.id t && fits a r.values r.reading) c ≡ true) ((bytes_eq-Decides r.id id).0 same) fit)
-
-of_found : (c : List Rule) (id : Text) (Q : List Text → Reading → Type 0) (R : Option Row → Type 0) → IsOf c id Q → ((r : Row) → Q r.values r.reading → R (Some r))
+-- a fact of the row of an id, if there is one, where all rows fit
+of_found : (c : List Rule) (id : Text) (R : Option Row → Type 0) → ((r : Row) → list_any (λ a. bytes_eq a.id id && fits a r.values r.reading) c ≡ true → R (Some r))
     → (rows : List Row) → (has_row id rows ≡ false → R None) → list_all (row_fits c) rows ≡ true → R (find (λ r. bytes_eq r.id id) rows)
-of_found c id Q R of some [] none all = none refl
-of_found c id Q R of some (r ∷ rows) none all =
+of_found c id R some [] none all = none refl
+of_found c id R some (r ∷ rows) none all =
     let p = and_parts _ _ all in
     (elim (bytes_eq r.id id) as (λ b. bytes_eq r.id id ≡ b → ((b || has_row id rows) ≡ false → R None) → R (if b then Some r else find (λ r. bytes_eq r.id id) rows)) [
-      | true ↦ λ same n. some r (of_row c id Q of r same p.0)
-      | false ↦ λ same n. of_found c id Q R of some rows n p.1
+      | true ↦ λ same n. some r (subst (λ t. list_any (λ a. bytes_eq a.id t && fits a r.values r.reading) c ≡ true) ((bytes_eq-Decides r.id id).0 same) p.0)
+      | false ↦ λ same n. of_found c id R some rows n p.1
     ]) refl none
 
 -- ---- numbers and lists
@@ -140,18 +133,6 @@ optional_numeral : (a : Rule) (least most : ℕ) (values : List Text) (how : Rea
 optional_numeral a least most [] how one parser e = tt
 optional_numeral a least most (v ∷ vs) how one parser e = numeral a least most (v ∷ vs) how one parser e
 
-number_there : (c : List Rule) (id : Text) (least most : ℕ) (rows : List Row) → IsOf c id (λ values how. IsUnsignedIn least most (read_text values how))
-    → has_row id rows ≡ true → list_all (row_fits c) rows ≡ true → IsUnsignedIn least most (numeral_of id rows)
-number_there c id least most rows of has all =
-    of_found c id (λ values how. IsUnsignedIn least most (read_text values how)) (λ o. IsUnsignedIn least most (unwrap_or (option_and_then row_text o) []))
-    of (λ r q. q) rows (λ none. let bad : false ≡ true = sym none ∙ has in cc) all
-
-number_if_there : (c : List Rule) (id : Text) (least most : ℕ) (rows : List Row) → IsOf c id (λ values how. IfSome (first_text values how) (IsUnsignedIn least most))
-    → list_all (row_fits c) rows ≡ true → IfSome (one_of id rows) (IsUnsignedIn least most)
-number_if_there c id least most rows of all =
-    of_found c id (λ values how. IfSome (first_text values how) (IsUnsignedIn least most)) (λ o. IfSome (option_and_then row_text o) (IsUnsignedIn least most))
-    of (λ r q. q) rows (λ none. tt) all
-
 -- values of a number in a range, each of which passes
 numerals : (a : Rule) (least most : ℕ) (values : List Text) → a.parser ≡ Some (Unsigned least most) → values_pass a values ≡ true
     → All (IsUnsignedIn least most) values
@@ -160,24 +141,6 @@ numerals a least most (v ∷ vs) parser e =
     let p = and_parts _ _ e in
     let taken : accepts a.ignore_case (Unsigned least most) v ≡ true = ap (λ r. accepts a.ignore_case (parser_of_value r) v) (sym parser) ∙ p.0 in
     All-cons (IsUnsignedIn least most) v vs (accepts-Accepts a.ignore_case (Unsigned least most) v taken) (numerals a least most vs parser p.1)
-
-numbers_there : (c : List Rule) (id : Text) (least most : ℕ) (rows : List Row) → IsOf c id (λ values how. All (IsUnsignedIn least most) values)
-    → list_all (row_fits c) rows ≡ true → All (IsUnsignedIn least most) (values_of id rows)
-numbers_there c id least most rows of all =
-    of_found c id (λ values how. All (IsUnsignedIn least most) values) (λ o. All (IsUnsignedIn least most) (unwrap_or (option_map (λ r. r.values) o) []))
-    of (λ r q. q) rows (λ none. All-nil (IsUnsignedIn least most)) all
-
-few_values : (c : List Rule) (id : Text) (most : ℕ) (rows : List Row) → IsOf c id (λ values how. length values ≤ most)
-    → list_all (row_fits c) rows ≡ true → length (values_of id rows) ≤ most
-few_values c id most rows of all =
-    of_found c id (λ values how. length values ≤ most) (λ o. length (unwrap_or (option_map (λ r. r.values) o) []) ≤ most)
-    of (λ r q. q) rows (λ none. omega arith) all
-
-enough_values : (c : List Rule) (id : Text) (least : ℕ) (rows : List Row) → IsOf c id (λ values how. least ≤ length values) → has_row id rows ≡ true
-    → list_all (row_fits c) rows ≡ true → least ≤ length (values_of id rows)
-enough_values c id least rows of has all =
-    of_found c id (λ values how. least ≤ length values) (λ o. least ≤ length (unwrap_or (option_map (λ r. r.values) o) []))
-    of (λ r q. q) rows (λ none. let bad : false ≡ true = sym none ∙ has in cc) all
 
 fits_most : (a : Rule) (values : List Text) (how : Reading) (most : ℕ) → most_values a ≡ most → fits a values how ≡ true → length values ≤ most
 fits_most a values how most is e =
@@ -287,48 +250,57 @@ module _ (s : Shape) (words : List Text) (plain : is_plain_subcommand s ≡ true
       given_there id (λ r. explicit_source r.source) rows
       (required_given id s.rules rows (only_has (λ x. x.required) s.rules id a only required) (all_given s rows (valid_level s words passes)))
 
+  -- a fact of the row of an argument, if there is one
+  row_holds : (id : Text) (a : Rule) (R : Option Row → Type 0) → Only s.rules id a → ((r : Row) → fits a r.values r.reading ≡ true → R (Some r)) → (has_row id rows ≡ false → R None)
+      → R (find (λ r. bytes_eq r.id id) rows)
+  row_holds id a R only some none = of_found s.rules id R (λ r fit. some r (has_only (λ x. fits x r.values r.reading) s.rules id a only fit)) rows none all_fit
+
+  number_there : (id : Text) (a : Rule) (top least most : ℕ) → Only s.rules id a → has_row id rows ≡ true → (unwrap_or_range a.range).start_inclusive ≡ 1
+      → a.parser ≡ Some (Unsigned least most) → nat_le most top ≡ true → IsNumberIn top least most id rows
+  number_there id a top least most only has one parser small =
+      number_is_in top least most id rows small
+      (row_holds id a (λ o. IsUnsignedIn least most (unwrap_or (option_and_then row_text o) [])) only (λ r. numeral a least most r.values r.reading one parser)
+      (λ none. let bad : false ≡ true = sym none ∙ has in cc))
+
   -- a number that has to be there
   pub number-in_range : (id : Text) (a : Rule) (top least most : ℕ) → Only s.rules id a → a.required ≡ true → (unwrap_or_range a.range).start_inclusive ≡ 1
       → a.parser ≡ Some (Unsigned least most) → nat_le most top ≡ true → IsNumberIn top least most id rows
-  number-in_range id a top least most only required one parser small =
-      number_is_in top least most id rows small
-      (number_there s.rules id least most rows (λ values how fit. numeral a least most values how one parser (has_only (λ x. fits x values how) s.rules id a only fit))
-      (has_required id a only required) all_fit)
+  number-in_range id a top least most only required = number_there id a top least most only (has_required id a only required)
 
   -- an option with no default
   pub optional-in_range : (id : Text) (a : Rule) (top least most : ℕ) → Only s.rules id a → (unwrap_or_range a.range).start_inclusive ≡ 1
       → a.parser ≡ Some (Unsigned least most) → nat_le most top ≡ true → IsOptionIn top least most id rows
   optional-in_range id a top least most only one parser small =
       let read = option_read top least most (one_of id rows) (leb-true most top small)
-      (number_if_there s.rules id least most rows (λ values how fit. optional_numeral a least most values how one parser (has_only (λ x. fits x values how) s.rules id a only fit))
-      all_fit) in
+      (row_holds id a (λ o. IfSome (option_and_then row_text o) (IsUnsignedIn least most)) only (λ r. optional_numeral a least most r.values r.reading one parser) (λ none. tt)) in
       record { can_be_read = read.0; in_range = read.1 }
 
   -- an option with a default
   pub option-in_range : (id : Text) (a : Rule) (top least most : ℕ) → Only s.rules id a → no_values a.defaults ≡ false → (unwrap_or_range a.range).start_inclusive ≡ 1
       → a.parser ≡ Some (Unsigned least most) → nat_le most top ≡ true → IsNumberIn top least most id rows
-  option-in_range id a top least most only given one parser small =
-      number_is_in top least most id rows small
-      (number_there s.rules id least most rows (λ values how fit. numeral a least most values how one parser (has_only (λ x. fits x values how) s.rules id a only fit))
-      (defaulted id s.rules (settled s.rules (walk s.rules [] nothing_held words).held).rows (only_has (λ x. not (no_values x.defaults)) s.rules id a only (ap not given))) all_fit)
+  option-in_range id a top least most only given =
+      number_there id a top least most only
+      (defaulted id s.rules (settled s.rules (walk s.rules [] nothing_held words).held).rows (only_has (λ x. not (no_values x.defaults)) s.rules id a only (ap not given)))
 
   pub list-length : (id : Text) (a : Rule) (most : ℕ) → Only s.rules id a → most_values a ≡ most → length (values_of id rows) ≤ most
-  list-length id a most only is = few_values s.rules id most rows (λ values how fit. fits_most a values how most is (has_only (λ x. fits x values how) s.rules id a only fit)) all_fit
+  list-length id a most only is =
+      row_holds id a (λ o. length (unwrap_or (option_map (λ r. r.values) o) []) ≤ most) only (λ r. fits_most a r.values r.reading most is) (λ none. omega arith)
 
   -- a list that has to be there
   pub list-filled : (id : Text) (a : Rule) (least : ℕ) → Only s.rules id a → a.required ≡ true → (unwrap_or_range a.range).start_inclusive ≡ least
       → least ≤ length (values_of id rows)
   list-filled id a least only required is =
-      enough_values s.rules id least rows (λ values how fit. fits_least a values how least is (has_only (λ x. fits x values how) s.rules id a only fit))
-      (has_required id a only required) all_fit
+      row_holds id a (λ o. least ≤ length (unwrap_or (option_map (λ r. r.values) o) [])) only (λ r. fits_least a r.values r.reading least is)
+      (λ none. let bad : false ≡ true = sym none ∙ has_required id a only required in cc)
 
   -- a list of numbers
   pub numbers-in_range : (id : Text) (a : Rule) (top least most : ℕ) → Only s.rules id a → a.parser ≡ Some (Unsigned least most) → nat_le most top ≡ true
       → AreNumbersIn top least most id rows
   numbers-in_range id a top least most only parser small =
       let few : most ≤ top = leb-true most top small in
-      let each = numbers_there s.rules id least most rows
-      (λ values how fit. fits_numerals a values how least most parser (has_only (λ x. fits x values how) s.rules id a only fit)) all_fit in
+      let each : All (IsUnsignedIn least most) (values_of id rows) =
+      row_holds id a (λ o. All (IsUnsignedIn least most) (unwrap_or (option_map (λ r. r.values) o) [])) only
+      (λ r. fits_numerals a r.values r.reading least most parser) (λ none. All-nil (IsUnsignedIn least most)) in
       record {
         can_be_read = All-weaker (IsUnsignedIn least most) (IsUnsignedIn 0 top) (λ v is. (is.0, is.1, omega arith, omega (arith, few, is.3))) (values_of id rows) each;
         in_range = All-map (λ n. (least ≤ n) × (n ≤ most)) number_in (values_of id rows)
