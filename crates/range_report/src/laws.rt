@@ -9,12 +9,14 @@ pub fn runs_are_longest()
 {}
 
 /// Each row of a report stands in a run, in the line of a point, or in the number of those that have no source.
+#[tactic(auto, using(crate::proofs::Counted::rows_are_counted))]
 pub fn rows_are_counted()
     ensures { RowsAreCounted }
 {}
 
 /// A run that is told as the same has one range of source bytes, as long as it is, and holds the bytes that were
 /// received there.
+#[tactic(auto, using(crate::proofs::Texts::same_holds_range))]
 pub fn same_holds_its_range()
     ensures { SameHoldsRange }
 {}
