@@ -11,4 +11,4 @@ mod parallelism;
 
 pub use collected::Collected;
 pub use engine::{ClosureEngine, Engine};
-pub use parallelism::Parallelism;
+pub use parallelism::{Drivers, Parallelism};

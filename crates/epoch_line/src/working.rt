@@ -29,10 +29,14 @@ pub fn work<G: Gate, R: Threads + Wait + Sync>(
     requires { AreAtBeginnings cuts checkpoints.now }
     ensures { IfOk result (IsCollectedOf query.now checkpoints.now.job cuts) }
 {
-    let Parallelism { workers, link } = parallelism;
+    let Parallelism {
+        workers,
+        drivers,
+        link,
+    } = parallelism;
     // The contract of this says that the epochs are few.
     let _count = cuts.count();
     let nodes = lay_out(alloc, checkpoints, query, gate, cuts, link)?;
-    let done = work_in_groups(rt, alloc, nodes, workers)?;
+    let done = work_in_groups(rt, alloc, nodes, workers, drivers)?;
     collect(alloc, done)
 }

@@ -1,7 +1,9 @@
 -- The nodes of groups, and their numbers.
-use Rattle.std.proofs.Common.{◌≡◌, ℕ, ◌+◌, List, [], ◌∷◌, ◌++◌, map, length, length-append, reverse, refl, sym, subst, subst₂, ap, ap₂, ◌∙◌, append_assoc, append-nil, arith}
+use Rattle.std.proofs.Common.{◌≡◌, ◌≤◌, ℕ, ◌+◌, ◌*◌, List, [], ◌∷◌, ◌++◌, map, length, length-append, reverse, refl, sym, subst, subst₂, ap, ap₂, ◌∙◌, append_assoc, append-nil, arith}
 use Rattle.std.specs.Prelude.{All}
+use Rattle.std.specs.Int.{div_ceil}
 use Rattle.std.specs.List.{AllZip, range_with_len}
+use Rattle.std.proofs.lemmas.Grind.{div_ceil_times}
 use Rattle.std.proofs.lemmas.List.Elements.{All-nil, All-cons, All-append, All-head, All-tail, length_all_zip}
 use Rattle.run_board.specs.Tasks.{AreNumbered}
 use Rattle.run_board.proofs.FillOrder.{numbered_push}
@@ -49,6 +51,11 @@ numbers_on groups more g e numbers is =
 nodes_push : (groups : List GroupView) (g : GroupView) → nodes_of (groups ++ g ∷ []) ≡ g.nodes ++ nodes_of groups
 nodes_push [] g = sym (append-nil g.nodes)
 nodes_push (h ∷ gs) g = ap (λ ns. ns ++ h.nodes) (nodes_push gs g) ∙ append_assoc g.nodes (nodes_of gs) h.nodes
+
+-- the last group has all nodes that are left
+pub last_has_all : (nodes left size : ℕ) → left ≡ 1 → size ≡ div_ceil nodes left → nodes ≤ size
+last_has_all nodes left size one is =
+    omega (arith, is, (div_ceil_times nodes left (omega (arith, one))).0, ap (λ k. div_ceil nodes left * k) one)
 
 -- the nodes that are in no group, and those of the groups, where the last of the former become a group
 pub split_on : (groups more : List GroupView) (g : GroupView) (left rest nodes : List NodeView) → more ≡ groups ++ g ∷ []

@@ -1,6 +1,6 @@
 //! Nodes, in groups and in one list again.
 
-ghost use Rattle.std.specs.Prelude.{◌≡◌, ◌<◌, ◌≤◌, ◌++◌, IfOk, OnOk, length, reverse, vec_len};
+ghost use Rattle.std.specs.Prelude.{◌≡◌, ◌≤◌, ◌-◌, ◌++◌, IfOk, OnOk, length, reverse, vec_len};
 ghost use Rattle.run_board.specs.Tasks.{AreNumbered};
 ghost use Rattle.epoch_turns.specs.Groups.{AreOfOneJob, nodes_of};
 
@@ -9,18 +9,17 @@ use epoch_node::Node;
 use no_memory::NoMemory;
 use std::alloc::Global;
 
-/// The group of the last nodes, as many as `size` where there are so many. It gives up with NoMemory alone.
+/// The group of the last nodes, `size` of them, or all where there are fewer. It gives up with NoMemory alone.
 fn take_group<'a, G>(
     alloc: Global,
     number: u32,
     nodes: &mut Vec<Node<'a, G>>,
     size: usize,
 ) -> Result<Group<'a, G>, NoMemory>
-    requires some { 1 ≤ size }
-    requires one_job { AreOfOneJob nodes.old.items }
+    requires { AreOfOneJob nodes.old.items }
     ensures number { IfOk result (λ group. group.number ≡ number) }
     ensures nodes { IfOk result (λ group. nodes.old.items ≡ nodes.new.items ++ group.nodes) }
-    ensures fewer { IfOk result (λ _. 1 ≤ vec_len nodes.old → vec_len nodes.new < vec_len nodes.old) }
+    ensures left { IfOk result (λ _. vec_len nodes.new ≡ vec_len nodes.old - size) }
 {
     let count = size.min(nodes.len());
     let mut stack = Vec::with_capacity(alloc, count)?;
@@ -33,23 +32,22 @@ fn take_group<'a, G>(
     Ok(Group::new(number, stack, turned))
 }
 
-/// The nodes in groups of `size` neighbours each, from the last to the first, which may have fewer. It gives up with
-/// NoMemory alone.
+/// The nodes in `count` groups of neighbours, from the last to the first. None has two nodes more than another one. It
+/// gives up with NoMemory alone.
 pub(crate) fn split<'a, G>(
     alloc: Global,
     mut nodes: Vec<Node<'a, G>>,
-    size: usize,
+    count: u32,
 ) -> Result<Vec<Group<'a, G>>, NoMemory>
-    requires some { 1 ≤ size }
-    requires count { (1 ≤ vec_len nodes) × (vec_len nodes ≤ 4096) }
+    requires some { 1 ≤ count }
     requires one_job { AreOfOneJob nodes.items }
     ensures nodes { IfOk result (λ groups. nodes_of groups.items ≡ nodes.entry.items) }
     ensures numbers { IfOk result (λ groups. AreNumbered (λ g. g.number) groups.items) }
-    ensures count { IfOk result (λ groups. (1 ≤ vec_len groups) × (vec_len groups ≤ 4096)) }
+    ensures count { IfOk result (λ groups. vec_len groups ≡ count) }
 {
     let mut groups = Vec::new(alloc);
-    while !nodes.is_empty() {
-        let number = groups.len() as u32;
+    for number in 0..count {
+        let size = nodes.len().div_ceil((count - number) as usize);
         groups.push(take_group(alloc, number, &mut nodes, size)?)?;
     }
     Ok(groups)

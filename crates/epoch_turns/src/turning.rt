@@ -8,6 +8,7 @@ ghost use Rattle.epoch_turns.specs.Groups.{number_of, AreOfOneJob};
 
 use crate::own_work::OwnWork;
 use crate::splitting::{join, split};
+use epoch_engine::Drivers;
 use epoch_node::Node;
 use no_memory::NoMemory;
 use outer_io::Gate;
@@ -15,9 +16,6 @@ use run_board::Board;
 use std::alloc::Global;
 use std::sync::Wait;
 use std::thread::Threads;
-
-/// How many nodes a group has at most.
-const MOST_NODES: usize = 64;
 
 /// The own work of each of these nodes. It gives up with NoMemory alone.
 fn into_tasks<'a, G>(
@@ -67,37 +65,66 @@ fn work_apart<'a, G: Gate, R: Threads + Wait + Sync>(
     into_nodes(alloc, done)
 }
 
-/// Gives 1 to 4096 nodes of one job turns until each is done, in groups of neighbours, by one worker: a message then
-/// stays on one processor, and may pass many nodes in one turn. The cursor of one analysis serves the next, where nodes
-/// haven't begun. It gives up with NoMemory alone.
+/// Gives the nodes of one job turns until each is done, by `workers`, 1 to 64 of them, in as many groups of neighbours.
+/// Within a group a message stays on one processor, and may pass many nodes in one turn. A node that hasn't begun
+/// enters the gate, and its epoch is analysed; the cursor of one analysis serves the next of its group. It gives up with
+/// NoMemory alone.
 fn turn_all<'a, G: Gate, R: Threads + Wait + Sync>(
     rt: &R,
     alloc: Global,
     nodes: Vec<Node<'a, G>>,
+    workers: u32,
 ) -> Result<Vec<Node<'a, G>>, NoMemory>
-    requires count { (1 ≤ length nodes.items) × (length nodes.items ≤ 4096) }
     requires one_job { AreOfOneJob nodes.items }
+    requires workers { (1 ≤ workers) × (workers ≤ 64) }
     ensures ended { IfOk result (λ done. All IsDone done.items) }
     ensures led { IfOk result (λ done. AllZip IsLedFrom done.items nodes.entry.items) }
 {
-    let groups = split(alloc, nodes, MOST_NODES)?;
+    let groups = split(alloc, nodes, workers)?;
     let board = Board::new(alloc, groups)?;
-    let done = board.work(rt, alloc, 1)?;
+    let done = board.work(rt, alloc, workers)?;
     join(alloc, done)
+}
+
+/// Gives 1 to 4096 nodes of one job, whose numbers are 0, 1, 2 and so on, turns until each is done. Where all `workers`,
+/// 1 to 64 of them, drive the nodes, a node's first turn analyses its epoch. Where one does, all of them analyse the
+/// epochs before. It gives up with NoMemory alone.
+fn drive<'a, G: Gate, R: Threads + Wait + Sync>(
+    rt: &R,
+    alloc: Global,
+    nodes: Vec<Node<'a, G>>,
+    workers: u32,
+    drivers: Drivers,
+) -> Result<Vec<Node<'a, G>>, NoMemory>
+    requires numbers { AreNumbered number_of nodes.items }
+    requires count { (1 ≤ length nodes.items) × (length nodes.items ≤ 4096) }
+    requires one_job { AreOfOneJob nodes.items }
+    requires workers { (1 ≤ workers) × (workers ≤ 64) }
+    ensures ended { IfOk result (λ done. All IsDone done.items) }
+    ensures led { IfOk result (λ done. AllZip IsLedFrom done.items nodes.entry.items) }
+{
+    match drivers {
+        Drivers::AllWorkers => turn_all(rt, alloc, nodes, workers),
+        Drivers::OneWorker => {
+            let begun = work_apart(rt, alloc, nodes, workers)?;
+            turn_all(rt, alloc, begun, 1)
+        }
+    }
 }
 
 /// Gives 1 to 4096 nodes of one job, whose numbers are 0, 1, 2 and so on, turns until each is done, by `workers`, 1 to
 /// 64 of them. It answers them in order of number, each led from the one handed in with that number. It gives up with
 /// NoMemory alone.
 ///
-/// All workers analyse the epochs, which need nothing of each other, and at last make their rows. What nodes ask and answer
-/// in between goes from one to the next, so one worker gives all of them their turns: a second one would wait for the
-/// first.
+/// All workers analyse the epochs, which need nothing of each other, and at last make their rows. What nodes ask and
+/// answer in between goes from one to the next. The `drivers` give them the turns for that: all workers, each to a group
+/// of its own, or one worker, so that none waits for another.
 pub fn work_in_groups<'a, G: Gate, R: Threads + Wait + Sync>(
     rt: &R,
     alloc: Global,
     nodes: Vec<Node<'a, G>>,
     workers: u32,
+    drivers: Drivers,
 ) -> Result<Vec<Node<'a, G>>, NoMemory>
     requires numbers { AreNumbered number_of nodes.items }
     requires count { (1 ≤ length nodes.items) × (length nodes.items ≤ 4096) }
@@ -110,9 +137,8 @@ pub fn work_in_groups<'a, G: Gate, R: Threads + Wait + Sync>(
     // More workers than nodes would find nothing to do.
     let workers = workers.min(nodes.len() as u32);
     if workers == 1 {
-        return turn_all(rt, alloc, nodes);
+        return turn_all(rt, alloc, nodes, 1);
     }
-    let begun = work_apart(rt, alloc, nodes, workers)?;
-    let done = turn_all(rt, alloc, begun)?;
+    let done = drive(rt, alloc, nodes, workers, drivers)?;
     work_apart(rt, alloc, done, workers)
 }

@@ -9,4 +9,5 @@ pub mod Writing
 pub mod Ending
 pub mod Obeying
 pub mod Parts
+pub mod Resources
 pub mod Bench

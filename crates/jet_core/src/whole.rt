@@ -1,6 +1,6 @@
 //! A query over a whole run, by the line of nodes, on one thread, and by lists.
 
-ghost use Rattle.std.specs.Prelude.{◌≡◌, ◌≤◌, IfOk};
+ghost use Rattle.std.specs.Prelude.{◌≡◌, IfOk};
 ghost use Rattle.log_model.specs.Logs.{steps};
 ghost use Rattle.report_model.specs.Rows.{rows};
 ghost use Rattle.epoch_model.specs.Cutting.{IsCutting};
@@ -29,12 +29,9 @@ use std::alloc::Global;
 use std::sync::Wait;
 use std::thread::Threads;
 
-/// The report of a query over a run that is cut into epochs, what crosses each inner cut, and how many events of its nodes
-/// move, or 2^64 - 1 where they are more, as [`run_query::query`] gives them by the line of nodes: the workers analyse the
-/// epochs, and then one gives the nodes their turns. Each epoch enters the gate as its analysis begins. It gives up with
-/// NoMemory alone.
-///
-/// `workers` is 1 to 64. Each link holds at most `capacity` messages.
+/// The report of a query over a run that is cut into epochs, what crosses each inner cut, and how many events of its
+/// nodes move, or 2^64 - 1 where they are more, as [`run_query::query`] gives them by the line of nodes. Each epoch enters
+/// the gate as its analysis begins. It gives up with NoMemory alone.
 pub fn query<G: Gate, R: Threads + Wait + Sync>(
     rt: &R,
     alloc: Global,
@@ -42,11 +39,9 @@ pub fn query<G: Gate, R: Threads + Wait + Sync>(
     job: &Job,
     query: &Query,
     cuts: Cuts,
-    workers: u32,
-    capacity: Capacity,
+    parallelism: Parallelism,
 ) -> Result<(Report, Vec<Crossed>, u64), NoMemory>
-    requires cuts { IsCutting (steps job.now.log) cuts }
-    requires workers { (1 ≤ workers) × (workers ≤ 64) }
+    requires { IsCutting (steps job.now.log) cuts }
     ensures report { IfOk result (λ r. r.0 ≡ rows query.now (trace_of job.now)) }
     ensures crossed { IfOk result (λ r. r.1.items ≡ crossed query.now (trace_of job.now) cuts) }
     ensures events { IfOk result (λ r. r.2 ≡ capped (run_work query.now (trace_of job.now) cuts)) }
@@ -60,8 +55,6 @@ pub fn query<G: Gate, R: Threads + Wait + Sync>(
             ensures { IfOk result (IsCollectedOf query.entry.now checkpoints.entry.now.job cuts) }
         { work(rt, alloc, gate, checkpoints, query, cuts, parallelism) },
     };
-    let link = capacity;
-    let parallelism = Parallelism { workers, link };
     let QueryAnswer {
         report,
         crossed,

@@ -51,7 +51,7 @@ short_flags = refl
 
 -- the options that aren't given
 abbrev usual : Pipeline
-usual = record { epoch = None; workers = 4; link = 256 }
+usual = record { epoch = None; workers = 4; link = None }
 
 abbrev query : Text → Text → Text → Text → Line
 query line program log name = (line, AnalysisOf BySink program log name usual)
@@ -87,9 +87,9 @@ pipelines : Stands (
     ∷ piped (codes "jet query p l q --epoch 1099511627776") (record usual { epoch = Some 1099511627776 })
     ∷ piped (codes "jet query p l q --workers 1") (record usual { workers = 1 })
     ∷ piped (codes "jet query p l q --workers 64") (record usual { workers = 64 })
-    ∷ piped (codes "jet query p l q --link 1") (record usual { link = 1 })
-    ∷ piped (codes "jet query p l q --link 65536") (record usual { link = 65536 })
-    ∷ piped (codes "jet query --link=3 p l --workers 2 q --epoch 5") (record { epoch = Some 5; workers = 2; link = 3 }) ∷ [])
+    ∷ piped (codes "jet query p l q --link 1") (record usual { link = Some 1 })
+    ∷ piped (codes "jet query p l q --link 65536") (record usual { link = Some 65536 })
+    ∷ piped (codes "jet query --link=3 p l --workers 2 q --epoch 5") (record { epoch = Some 5; workers = 2; link = Some 3 }) ∷ [])
 unfolding command_of walked walk_passes
 pipelines = refl
 
@@ -245,7 +245,7 @@ turned line pipeline = (line, AnalysisOf BySource (codes "p") (codes "l") (codes
 
 influences : Stands (
     turned (codes "jet influence p l q") usual
-    ∷ turned (codes "jet influence p l q --epoch 5 --workers 2 --link 3") (record { epoch = Some 5; workers = 2; link = 3 }) ∷ [])
+    ∷ turned (codes "jet influence p l q --epoch 5 --workers 2 --link 3") (record { epoch = Some 5; workers = 2; link = Some 3 }) ∷ [])
 unfolding command_of walked walk_passes
 influences = refl
 
@@ -261,7 +261,7 @@ told line pipeline = (line, AnalysisOf ByPath (codes "p") (codes "l") (codes "q"
 
 paths : Stands (
     told (codes "jet path p l q") usual
-    ∷ told (codes "jet path --epoch 5 p l q --workers 2 --link 3") (record { epoch = Some 5; workers = 2; link = 3 }) ∷ [])
+    ∷ told (codes "jet path --epoch 5 p l q --workers 2 --link 3") (record { epoch = Some 5; workers = 2; link = Some 3 }) ∷ [])
 unfolding command_of walked walk_passes
 paths = refl
 
@@ -277,7 +277,7 @@ shown line pipeline = (line, AnalysisOf ByRange (codes "p") (codes "l") (codes "
 
 reports_in_ranges : Stands (
     shown (codes "jet show p l q") usual
-    ∷ shown (codes "jet show p l q --epoch 5 --link 3 --workers 2") (record { epoch = Some 5; workers = 2; link = 3 }) ∷ [])
+    ∷ shown (codes "jet show p l q --epoch 5 --link 3 --workers 2") (record { epoch = Some 5; workers = 2; link = Some 3 }) ∷ [])
 unfolding command_of walked walk_passes
 reports_in_ranges = refl
 
@@ -306,7 +306,7 @@ pages : Stands (
     page_made (codes "jet page p l q n") (codes "n") usual
     ∷ page_made (codes "jet page p l q q") (codes "q") usual
     ∷ page_made (codes "jet page p l -- q --n") (codes "--n") usual
-    ∷ page_made (codes "jet page p l --epoch 5 q n --link 3 --workers 2") (codes "n") (record { epoch = Some 5; workers = 2; link = 3 }) ∷ [])
+    ∷ page_made (codes "jet page p l --epoch 5 q n --link 3 --workers 2") (codes "n") (record { epoch = Some 5; workers = 2; link = Some 3 }) ∷ [])
 unfolding command_of walked walk_passes
 pages = refl
 
@@ -327,7 +327,7 @@ several_queries : Stands (
     ∷ several (codes "jet queries p l q -- --r") (codes "q" ∷ codes "--r" ∷ [])
     ∷ (
       codes "jet queries p l --epoch 5 q r --workers 2 --link 3",
-      QueriesOf (codes "p") (codes "l") (codes "q" ∷ codes "r" ∷ []) (record { epoch = Some 5; workers = 2; link = 3 }),
+      QueriesOf (codes "p") (codes "l") (codes "q" ∷ codes "r" ∷ []) (record { epoch = Some 5; workers = 2; link = Some 3 }),
     ) ∷ [])
 unfolding command_of walked walk_passes
 several_queries = refl
@@ -352,7 +352,7 @@ benches : Stands (
     ∷ made (codes "jet bench 18446744073709551615 2000000") 18446744073709551615 2000000 usual
     ∷ made (codes "jet bench 1 30 --epoch 15") 1 30 (record usual { epoch = Some 15 })
     ∷ made (codes "jet bench --link 3 1 --workers 2 30 --epoch 1048576") 1 30
-    (record { epoch = Some 1048576; workers = 2; link = 3 }) ∷ [])
+    (record { epoch = Some 1048576; workers = 2; link = Some 3 }) ∷ [])
 unfolding command_of walked walk_passes
 benches = refl
 

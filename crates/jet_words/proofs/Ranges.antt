@@ -40,10 +40,10 @@ pipeline_sound : (s : Shape) (words : List Text) → is_plain_subcommand s ≡ t
 pipeline_sound s words plain has e =
     let epoch = optional-in_range s words plain e (codes "epoch") _ 18446744073709551615 1 1099511627776 has.0 refl refl refl in
     let workers = option-in_range s words plain e (codes "workers") _ 4294967295 1 64 has.1 refl refl refl refl in
-    let link = option-in_range s words plain e (codes "link") _ 4294967295 1 65536 has.2 refl refl refl refl in
+    let link = optional-in_range s words plain e (codes "link") _ 18446744073709551615 1 65536 has.2 refl refl refl in
     record {
       numbers = (epoch.can_be_read, workers.can_be_read, link.can_be_read);
-      ranges = (epoch.in_range, workers.at_least, workers.at_most, link.at_least, link.at_most);
+      ranges = (epoch.in_range, workers.at_least, workers.at_most, link.in_range);
     }
 
 -- ---- each subcommand

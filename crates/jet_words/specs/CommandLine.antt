@@ -18,7 +18,7 @@ workers_option = number_option (codes "workers") 1 64 (codes "4")
 
 -- [--link C]
 abbrev pub link_option : Rule
-link_option = number_option (codes "link") 1 65536 (codes "256")
+link_option = optional_number (codes "link") 1 65536
 
 -- COMMAND .. [--epoch N] [--workers W] [--link C]
 abbrev pub with_pipeline : App → App

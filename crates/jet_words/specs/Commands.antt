@@ -43,7 +43,7 @@ abbrev pub pipeline_of : List Row → Pipeline
 pipeline_of rows = record {
   epoch = optional_number_of (codes "epoch") rows;
   workers = number_of (codes "workers") rows;
-  link = number_of (codes "link") rows;
+  link = optional_number_of (codes "link") rows;
 }
 
 abbrev pub analysis_of : Listing → List Row → CommandOf
@@ -141,7 +141,8 @@ plain_command (Bench seed steps pipeline) = BenchOf seed steps pipeline
 -- the numbers of the options lie in the ranges of the command line
 abbrev pub IsPipeline : Pipeline → Type 0
 IsPipeline p =
-    IfSome p.epoch (λ n. (1 ≤ n) × (n ≤ 1099511627776)) × (1 ≤ p.workers) × (p.workers ≤ 64) × (1 ≤ p.link) × (p.link ≤ 65536)
+    IfSome p.epoch (λ n. (1 ≤ n) × (n ≤ 1099511627776)) × (1 ≤ p.workers) × (p.workers ≤ 64)
+    × IfSome p.link (λ n. (1 ≤ n) × (n ≤ 65536))
 
 -- the channel does
 abbrev pub IsProduct : Product → Type 0

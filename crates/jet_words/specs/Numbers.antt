@@ -8,7 +8,7 @@ use Rattle.jet_words.specs.Commands.{listing_by}
 -- the numbers of the pipeline can be read
 abbrev pub HasPipelineNumbers : List Row → Type 0
 HasPipelineNumbers rows =
-    IsOptionalNumber (codes "epoch") rows × IsNumber (codes "workers") rows × IsNumber (codes "link") rows
+    IsOptionalNumber (codes "epoch") rows × IsNumber (codes "workers") rows × IsOptionalNumber (codes "link") rows
 
 -- each number of the subcommand can be read
 abbrev pub HasNumbers : Text × List Row → Type 0

@@ -7,8 +7,8 @@ pub struct Pipeline {
     pub epoch: Option<u64>,
     /// How many workers analyse the epochs, 1 to 64.
     pub workers: u32,
-    /// How many messages the link between two epochs holds, 1 to 65536.
-    pub link: u32,
+    /// How many messages the link between two epochs holds, 1 to 65536, where the words tell it.
+    pub link: Option<u64>,
 }
 
 /// What is told of the rows of a query.

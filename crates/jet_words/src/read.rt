@@ -39,7 +39,7 @@ fn read_pipeline(matches: &ArgMatches) -> Pipeline
     Pipeline {
         epoch: read_optional_number(matches, "epoch"),
         workers: read_number(matches, "workers"),
-        link: read_number(matches, "link"),
+        link: read_optional_number(matches, "link"),
     }
 }
 

@@ -43,7 +43,7 @@ const EPOCH: Argument = Argument::OptionalNumber("epoch", 1, 1099511627776);
 const WORKERS: Argument = Argument::NumberOption("workers", 1, 64, "4");
 
 /// How many messages the link between two epochs holds.
-const LINK: Argument = Argument::NumberOption("link", 1, 65536, "256");
+const LINK: Argument = Argument::OptionalNumber("link", 1, 65536);
 
 /// A run that is analysed for a query.
 const ANALYSIS: &[Argument] = &[PROG, LOG, QUERY, EPOCH, WORKERS, LINK];

@@ -7,7 +7,7 @@ use Rattle.epoch_turns.proofs.splitting.take_group.Goals as goal
 use Rattle.epoch_turns.proofs.splitting.take_group.Goals.{in-Some, in_default}
 
 pub new-requires-clause-one_job : goal.new-requires-clause-one_job
-new-requires-clause-one_job g c = taken_of_one_job _ c.loop.nodes.items c.loop.stack.items c.requires.one_job c.loop.invariant.split
+new-requires-clause-one_job g c = taken_of_one_job _ c.loop.nodes.items c.loop.stack.items c.requires c.loop.invariant.split
 
 pub loop-init : goal.loop-init
 loop-init g c = record {
