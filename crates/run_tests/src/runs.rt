@@ -5,6 +5,7 @@ ghost use Rattle.epoch_model.specs.Cutting.{IsCutting};
 
 mod checked;
 mod gates;
+mod groups;
 
 use crate::guests::{
     COPY_FOUR, COPY_IN_TWO, COUNT_DOWN, FILL, ROUND, Runtime, TRAP, copy_many, job_of,
@@ -12,6 +13,7 @@ use crate::guests::{
 use checkpoints::Checkpoints;
 use epoch_cut::laws::cut_times_are_cutting;
 use epoch_cut::{Cuts, cuts};
+use epoch_engine::{Drivers, Parallelism};
 use epoch_link::Capacity;
 use flow_model::{Loc, SinkByte, SinkPoint, SourceByte};
 use jet_core::{Crossed, joined, query, round_robin};
@@ -22,18 +24,24 @@ use seq_taint::sequential;
 use sink_collect::{Report, gather, text};
 use std::process::Abort;
 
-/// How many workers turn the epochs' nodes, and how many messages a link between two of them holds.
+/// How many workers there are, who of them drive the epochs' nodes, and how many messages a link between two nodes
+/// holds.
 #[derive(Clone, Copy)]
 struct Line {
     workers: u32,
+    drivers: Drivers,
     capacity: u32,
 }
 
 /// One worker, and the smallest links.
 const ALONE: Line = Line {
     workers: 1,
+    drivers: Drivers::AllWorkers,
     capacity: 1,
 };
+
+/// Who may drive the nodes.
+const DRIVERS: [Drivers; 2] = [Drivers::AllWorkers, Drivers::OneWorker];
 
 /// Where a run is cut by a length.
 pub fn cuts_of(rt: &impl Abort, job: &Job, length: u64) -> Cuts
@@ -67,12 +75,20 @@ fn answer_of<G: Gate>(
     length: u64,
     line: Line,
 ) -> Answer {
-    let Line { workers, capacity } = line;
+    let Line {
+        workers,
+        drivers,
+        capacity,
+    } = line;
     assert!(rt; 1 <= workers);
     assert!(rt; workers <= 64);
-    let capacity = Capacity::new(capacity).expect(rt, "a capacity");
+    let parallelism = Parallelism {
+        workers,
+        drivers,
+        link: Capacity::new(capacity).expect(rt, "a capacity"),
+    };
     let cuts = cuts_of(rt, job, length);
-    let found = query(rt, rt.alloc(), gate, job, wanted, cuts, workers, capacity);
+    let found = query(rt, rt.alloc(), gate, job, wanted, cuts, parallelism);
     let (report, crossed, events) = found.expect(rt, "memory");
     Answer {
         report,
@@ -253,16 +269,22 @@ fn assert_copied(rt: &impl Runtime, found: &Answer, length: u64) {
     assert!(rt; found.events == events);
 }
 
-/// By epochs of so many steps, and so many workers, the copy of four bytes has the same answers over links of each capacity.
+/// By epochs of so many steps, so many workers and these drivers, the copy of four bytes has the same answers over links
+/// of each capacity.
 fn assert_copied_by_workers(
     rt: &impl Runtime,
     job: &Job,
     wanted: &Query,
     length: u64,
     workers: u32,
+    drivers: Drivers,
 ) {
     for capacity in [1, 2, 256] {
-        let line = Line { workers, capacity };
+        let line = Line {
+            workers,
+            drivers,
+            capacity,
+        };
         let found = answer_of(rt, &OpenGate, job, wanted, length, line);
         assert_copied(rt, &found, length);
     }
@@ -280,8 +302,10 @@ fn assert_copied_by_rounds(rt: &impl Runtime, job: &Job, wanted: &Query, length:
 fn assert_copied_by_all(rt: &impl Runtime, job: &Job, wanted: &Query, length: u64) {
     let report = joined_report(rt, job, wanted, length);
     assert_text(rt, &report, COPIED);
-    for workers in [1, 2, 8, 64] {
-        assert_copied_by_workers(rt, job, wanted, length, workers);
+    for workers in [1, 2, 4, 8, 64] {
+        for drivers in DRIVERS {
+            assert_copied_by_workers(rt, job, wanted, length, workers, drivers);
+        }
     }
     assert_copied_by_rounds(rt, job, wanted, length);
 }
@@ -305,6 +329,7 @@ fn thousands_of_epochs_are_followed(rt: HostRuntime) {
     let line = Line {
         workers: 4,
         capacity: 256,
+        ..ALONE
     };
     let found = answer_of(&rt, &OpenGate, &job, &wanted, 2, line);
     assert_text(&rt, &found.report, "end 0\n");
@@ -367,12 +392,13 @@ fn a_long_run_is_joined(rt: HostRuntime) {
     assert!(rt; text(rt.alloc(), &report).expect(&rt, "memory").len() == 67789);
 }
 
-/// That run is followed by twenty-six epochs, which so many workers turn.
-fn assert_many_by(rt: &impl Runtime, workers: u32) {
+/// That run is followed by twenty-six epochs, by so many workers, of whom these drive the nodes.
+fn assert_many_by(rt: &impl Runtime, workers: u32, drivers: Drivers) {
     let job = copy_many(rt);
     let wanted = query_of(rt, COPY);
     let line = Line {
         workers,
+        drivers,
         capacity: 256,
     };
     let found = answer_of(rt, &OpenGate, &job, &wanted, 1000, line);
@@ -383,17 +409,22 @@ fn assert_many_by(rt: &impl Runtime, workers: u32) {
 
 #[test]
 fn a_long_run_is_followed_by_one_worker(rt: HostRuntime) {
-    assert_many_by(&rt, 1);
+    assert_many_by(&rt, 1, Drivers::AllWorkers);
 }
 
 #[test]
 fn a_long_run_is_followed_by_three_workers(rt: HostRuntime) {
-    assert_many_by(&rt, 3);
+    assert_many_by(&rt, 3, Drivers::AllWorkers);
+}
+
+#[test]
+fn a_long_run_that_three_workers_analyse_is_followed_by_one(rt: HostRuntime) {
+    assert_many_by(&rt, 3, Drivers::OneWorker);
 }
 
 #[test]
 fn a_long_run_is_followed_by_the_most_workers(rt: HostRuntime) {
-    assert_many_by(&rt, 64);
+    assert_many_by(&rt, 64, Drivers::AllWorkers);
 }
 
 /// Of the windows at the beginnings of its epochs the first has five pages. The two pages that are read to change once; those

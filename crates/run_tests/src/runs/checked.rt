@@ -8,7 +8,7 @@ use crate::guests::{COPY_FOUR, Recorded, Runtime, job_of, unchecked};
 use checkpoints::Checkpoints;
 use epoch_cut::laws::cut_times_are_cutting;
 use epoch_cut::{Cuts, cuts};
-use epoch_engine::{ClosureEngine, Collected, Parallelism};
+use epoch_engine::{ClosureEngine, Collected, Drivers, Parallelism};
 use epoch_line::work;
 use epoch_link::Capacity;
 use memory_outside::CountingGate;
@@ -37,6 +37,7 @@ fn checked_report<G: Gate>(rt: &impl Runtime, gate: &G, wanted: &Query, length: 
     };
     let parallelism = Parallelism {
         workers: 1,
+        drivers: Drivers::AllWorkers,
         link: Capacity::of(1),
     };
     let part = Part::Whole(cuts);
