@@ -1,8 +1,11 @@
 -- What the analysis of an epoch found.
 use Rattle.std.specs.Prelude.{ℕ, List, map}
+use Rattle.flow_model.specs.declared.Loc.{Loc}
 use Rattle.flow_model.specs.declared.SinkPoint.{SinkPoint}
 use Rattle.epoch_model.specs.Summary.{Terms, SinkTerms, Summary as EpochSummary}
+use Rattle.taint_shadow.specs.Places.{kept}
 use Rattle.taint_shadow.specs.Steps.{meaning_at}
+use Rattle.taint_shadow.specs.declared.labels.Label.{Label}
 use Rattle.taint_shadow.specs.declared.labels.SinkLabel.{SinkLabel}
 use Rattle.taint_shadow.specs.declared.places.Places.{Places}
 use Rattle.source_labels.specs.declared.nodes.Nodes.{Nodes}
@@ -20,6 +23,10 @@ nodes_of e = e.nodes
 -- its sinks in the order of the run, each with its label
 abbrev pub sinks_of : Summary → List SinkLabel
 sinks_of e = e.sinks.items
+
+-- the label that a location has at the epoch's end
+abbrev pub end_label : Summary → Loc → Label
+end_label e l = kept e.places l
 
 -- a sink with the terms of its label
 abbrev pub named : Nodes → SinkLabel → SinkTerms

@@ -10,7 +10,7 @@ use flow_model::{Loc, SinkPoint};
 use merge_log::TermsReader;
 use no_memory::NoMemory;
 use source_labels::Nodes;
-use taint_shadow::{Places, SinkLabel};
+use taint_shadow::{Label, Places, SinkLabel};
 use terms_ahead::TermsAhead;
 
 /// What the analysis of an epoch found: the terms of each location at the epoch's end, and the epoch's sinks with their
@@ -26,7 +26,7 @@ pub struct Summary {
 }
 
 impl Summary {
-    ghost use Rattle.epoch_summary.specs.Summaries.{number_of, summary_of, summary_by, nodes_of, sinks_of, names_of, terms_of};
+    ghost use Rattle.epoch_summary.specs.Summaries.{number_of, summary_of, summary_by, nodes_of, sinks_of, end_label, names_of, terms_of};
     ghost use Rattle.epoch_summary.specs.Ahead.{IsAhead};
 
     /// The summary of the epoch of this number, of the labels that its locations have at its end, and of its sinks in the
@@ -65,6 +65,15 @@ impl Summary {
         ensures stand { HaveNodesIn (nodes_of self.now) result.now }
     {
         &self.sinks
+    }
+
+    /// The label of a location at the epoch's end: that of what it had at the start where the epoch doesn't touch it.
+    pub fn end_label(&self, loc: Loc) -> Label
+        requires { IsLocation loc }
+        ensures label { result ≡ end_label self.now loc }
+        ensures stands { node_words.stands (nodes_of self.now) result }
+    {
+        self.places.get(loc)
     }
 
     /// Reads the terms of a location at the epoch's end: the location itself where the epoch doesn't touch it. When out

@@ -190,7 +190,7 @@ impl MergeLog {
     }
 
     /// What a node is made of.
-    pub(crate) fn entry(&self, node: u32) -> Entry
+    pub fn entry(&self, node: u32) -> Entry
         requires above_0 { 0 < node }
         requires stands { IsNode self.now node }
         ensures at { entry_at self.now node ≡ Some result }

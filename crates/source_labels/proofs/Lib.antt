@@ -1,3 +1,4 @@
 mod Kept
 mod Sources
 pub mod Origins
+pub mod Runs

@@ -1,12 +1,15 @@
 //! Labels as sets of source bytes: what was anywhere at the start of a run came from none.
 
-ghost use Rattle.std.specs.Prelude.{◌≡◌, ◌<◌, ◌↔◌, [], length, IsTrue, OnOk};
+ghost use Rattle.std.specs.Prelude.{◌≡◌, ◌<◌, ◌↔◌, [], length, IsTrue, IfOk, OnOk};
+ghost use Rattle.source_runs.specs.Runs.{bytes_of};
+ghost use Rattle.taint_shadow.specs.Labels.{Makes};
 ghost use Rattle.source_labels.specs.Words.{label_words, log_of, nodes_of};
 
 use crate::nodes::Nodes;
 use flow_model::SourceByte;
 use merge_log::TermsReader;
 use no_memory::NoMemory;
+use source_runs::SourceRun;
 use std::alloc::Global;
 use std::collections::LinkedList;
 use taint_shadow::{Label, LabelKind, Labels};
@@ -44,6 +47,20 @@ impl SourceLabels {
             LabelKind::Node(node) => node > 0,
             LabelKind::Start(_) => false,
             LabelKind::Run(_) => true,
+        }
+    }
+
+    /// The label of the source bytes of a run: that of nothing where its last offset is below the first. A run whose channel
+    /// or last offset is too large for a label's number has a node.
+    pub fn run(&mut self, run: SourceRun) -> Result<Label, NoMemory>
+        ensures { IfOk result (Makes label_words self.old (bytes_of run) self.new) }
+    {
+        if run.last < run.first {
+            return Ok(Label::nothing());
+        }
+        match Label::run(run) {
+            Some(label) => Ok(label),
+            None => self.nodes.run_node(run),
         }
     }
 

@@ -1,7 +1,7 @@
 //! Labels as terms: nodes of a log, runs of source bytes, and what locations had at the start.
 
 ghost use Rattle.std.specs.Prelude.{◌≡◌, [], IfOk, IfSome, OnOk};
-ghost use Rattle.merge_log.specs.Log.{AreSets, IsNode, KeepsNodes, terms};
+ghost use Rattle.merge_log.specs.Log.{AreSets, IsNode, KeepsNodes, run_term, terms};
 ghost use Rattle.taint_shadow.specs.Labels.{MakesLabel, Makes, mean_together};
 ghost use Rattle.source_labels.specs.Words.{log_of, node_words};
 
@@ -79,6 +79,14 @@ impl Nodes {
         ensures { IfOk result (Makes node_words self.old (node_words.source byte) self.new) }
     {
         let node = self.log.leaf_source(byte)?;
+        Ok(self.label_of(node))
+    }
+
+    /// The label of the node of the source bytes of a run.
+    pub(crate) fn run_node(&mut self, run: SourceRun) -> Result<Label, NoMemory>
+        ensures { IfOk result (Makes node_words self.old (run_term run) self.new) }
+    {
+        let node = self.log.leaf_run(run)?;
         Ok(self.label_of(node))
     }
 
