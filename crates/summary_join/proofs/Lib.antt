@@ -1,0 +1,11 @@
+mod Places
+mod Resolving
+mod Labelling
+mod Carrying
+mod Marking
+mod Noting
+mod Looking
+mod Needing
+mod Asking
+mod UpTo
+mod Rows

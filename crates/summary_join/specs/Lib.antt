@@ -1,0 +1,5 @@
+pub mod Labels
+pub mod Needs
+pub mod Pieces
+pub mod Joins
+pub mod Runs

@@ -1,0 +1,20 @@
+-- The summaries of the epochs of a run.
+use Rattle.std.specs.Prelude.{ℕ, List, length, All}
+use Rattle.flow_model.specs.declared.StepSeen.{StepSeen}
+use Rattle.flow_model.specs.Ranges.{IsInRange}
+use Rattle.report_model.specs.Query.{Query, AreLocated}
+use Rattle.epoch_model.specs.Cutting.{IsCutting}
+use Rattle.epoch_model.specs.Summary.{Summary, AreSummaries}
+
+-- a query over a trace, and where the trace is cut
+pub record CutTrace : Type 0 where
+  pub query : Query
+  pub trace : List StepSeen
+  pub cuts : List ℕ
+
+-- es are the summaries of its epochs, in order; its steps are in range, and the query's points at locations
+pub record AreOfRun (run : CutTrace) (es : List Summary) : Type 0 where
+  pub in_range : All IsInRange run.trace
+  pub located : AreLocated run.query.points
+  pub cutting : IsCutting (length run.trace) run.cuts
+  pub summaries : AreSummaries run.query run.trace 0 run.cuts es

@@ -1,0 +1,42 @@
+//! What locations had at a cut.
+
+ghost use Rattle.std.specs.Prelude.{◌≡◌, get_or};
+ghost use Rattle.taint_shadow.specs.Labels.{nothing_label};
+
+use epoch_summary::Asked;
+use flow_model::Loc;
+use taint_shadow::Label;
+
+/// The locations that an epoch asks for, and the labels of what they had at its start, in the same order. Those past the last
+/// label had nothing.
+#[derive(Drop)]
+pub struct CutLabels {
+    pub(crate) asked: Asked,
+    pub(crate) labels: Vec<Label>,
+}
+
+impl CutLabels {
+    ghost use Rattle.summary_join.specs.Labels.{label_at};
+
+    /// The label of what a location had: that of nothing where it isn't asked for.
+    pub fn label(&self, loc: Loc) -> Label
+        ensures { result ≡ label_at self.now.asked self.now.labels.items loc }
+    {
+        self.asked.form();
+        match self.asked.place_of(loc) {
+            Some(place) => label_or_nothing(&self.labels, place),
+            None => Label::nothing(),
+        }
+    }
+}
+
+/// The label at a place: that of nothing past the last.
+#[inline(always)]
+pub fn label_or_nothing(labels: &[Label], place: usize) -> Label
+    ensures { result ≡ get_or labels.now place nothing_label }
+{
+    match labels.get(place) {
+        Some(label) => *label,
+        None => Label::nothing(),
+    }
+}

@@ -1,0 +1,102 @@
+//! The labels of an epoch's own, carried into the one log.
+
+ghost use Rattle.std.specs.Prelude.{◌≡◌, ◌++◌, map, IfOk, OnOk};
+ghost use Rattle.taint_shadow.specs.Labels.{KeepsLabels};
+ghost use Rattle.source_labels.specs.Words.{label_words};
+ghost use Rattle.epoch_summary.specs.Summaries.{sinks_of};
+ghost use Rattle.summary_join.specs.Labels.{AllStand, carried, carried_sink};
+ghost use Rattle.summary_join.specs.Joins.{SinksStand, IsJoined};
+
+use crate::cut::{CutLabels, label_or_nothing};
+use crate::nodes::label_nodes;
+use crate::piece::Piece;
+use epoch_summary::Summary;
+use no_memory::NoMemory;
+use source_labels::SourceLabels;
+use std::alloc::Global;
+use taint_shadow::{Label, LabelKind, SinkLabel};
+
+/// Puts the sinks of an epoch after those of the earlier ones, each with its label in the one log, and gives what the locations
+/// that the next epoch asks for had at the epoch's end. The epoch is let go. When out of memory, part of this may be done.
+pub fn join_epoch(
+    alloc: Global,
+    labels: &mut SourceLabels,
+    cut: &CutLabels,
+    piece: Piece,
+    sinks: &mut Vec<SinkLabel>,
+) -> Result<CutLabels, NoMemory>
+    requires cut { AllStand labels.old cut.now.labels.items }
+    requires sinks { SinksStand labels.old sinks.old.items }
+    ensures keeps { OnOk result (KeepsLabels label_words labels.old labels.new) }
+    ensures joined { IfOk result (λ next.
+        IsJoined labels.old cut.now piece sinks.old.items labels.new next sinks.new.items) }
+{
+    let Piece {
+        summary,
+        requests,
+        ends,
+        marks,
+    } = piece;
+    let table = label_nodes(alloc, labels, summary.nodes().log(), &marks, cut)?;
+    add_sinks(sinks, &summary, cut, &table)?;
+    drop(summary);
+    let ends = carry_all(alloc, &ends, cut, &table)?;
+    Ok(CutLabels {
+        asked: requests,
+        labels: ends,
+    })
+}
+
+/// The label in the one log of a label of the epoch's own.
+#[inline(always)]
+fn carry(label: Label, cut: &CutLabels, table: &[Label]) -> Label
+    ensures { result ≡ carried cut.now table.now label }
+{
+    match label.kind() {
+        LabelKind::Node(node) => label_or_nothing(table, node as usize),
+        LabelKind::Start(loc) => cut.label(loc),
+        LabelKind::Run(run) => {
+            if run.last < run.first {
+                return Label::nothing();
+            }
+            label
+        }
+    }
+}
+
+/// Puts the sinks of an epoch after those of the earlier ones.
+fn add_sinks(
+    sinks: &mut Vec<SinkLabel>,
+    summary: &Summary,
+    cut: &CutLabels,
+    table: &[Label],
+) -> Result<(), NoMemory>
+    ensures { OnOk result (sinks.new.items
+        ≡ sinks.old.items ++ map (carried_sink cut.now table.now) (sinks_of summary.now)) }
+{
+    let own = summary.sinks();
+    for number in 0..own.len() {
+        let sink = own[number];
+        sinks.push(SinkLabel {
+            name: sink.name,
+            label: carry(sink.label, cut, table),
+        })?;
+    }
+    Ok(())
+}
+
+/// The labels in the one log of some labels of the epoch's own.
+fn carry_all(
+    alloc: Global,
+    labels: &[Label],
+    cut: &CutLabels,
+    table: &[Label],
+) -> Result<Vec<Label>, NoMemory>
+    ensures { IfOk result (λ all. all.items ≡ map (carried cut.now table.now) labels.now) }
+{
+    let mut all = Vec::with_capacity(alloc, labels.len())?;
+    for place in 0..labels.len() {
+        all.push(carry(labels[place], cut, table))?;
+    }
+    Ok(all)
+}
