@@ -16,13 +16,14 @@ use Rattle.epoch_model.specs.Summary.{Summary as EpochSummary, SinkTerms, AreSum
 use Rattle.epoch_model.specs.Crossing.{crossing, wanted}
 use Rattle.epoch_model.proofs.Adding.{all_had, any_added_all}
 use Rattle.epoch_model.proofs.AnyOf.{any_flat}
-use Rattle.epoch_model.proofs.Asking.{located-crossing}
+use Rattle.epoch_model.proofs.Asking.{asks_what_is_needed, located-crossing}
 use Rattle.taint_shadow.specs.declared.labels.Label.{Label}
 use Rattle.taint_shadow.specs.declared.labels.SinkLabel.{SinkLabel}
 use Rattle.epoch_summary.specs.declared.summary.Summary.{Summary}
 use Rattle.epoch_summary.specs.Summaries.{end_label, named, nodes_of, sinks_of, summary_of}
 use Rattle.summary_join.specs.declared.piece.Piece.{Piece}
 use Rattle.summary_join.specs.Needs.{roots, starts_of}
+use Rattle.summary_join.specs.PieceLaws.{PiecesAskWhatCrosses, PiecesAskWhatIsNeeded}
 use Rattle.summary_join.specs.Pieces.{ArePieces}
 use Rattle.summary_join.specs.Runs.{AreOfRun, CutTrace}
 use Rattle.summary_join.proofs.Places.{any_same, at_had}
@@ -44,8 +45,8 @@ roots_want e requests =
 
 -- ---- all of them
 
--- what the first one asks is what crosses there, each location once
-pub pieces_ask : (es : List EpochSummary) (asked : List Loc) (ps : List Piece) → ArePieces es asked ps → (l : Loc) → has loc_cmp l asked ≡ has loc_cmp l (crossing es)
+-- what the first one asks is what crosses there
+pub pieces_ask : PiecesAskWhatCrosses
 pieces_ask [] asked ps h l = ap (has loc_cmp l) h.0
 pieces_ask (e ∷ es) asked ps h l =
     let p = h.1 in
@@ -60,6 +61,9 @@ pieces_ask (e ∷ es) asked ps h l =
     ∙ sym (any_flat test at_end (crossing es)))
     ∙ sym (list_any-append test of_sinks (flat_map at_end (crossing es)))
     ∙ sym (any_added_all test [] (wanted e (crossing es)))
+
+pub pieces_ask_needed : PiecesAskWhatIsNeeded
+pieces_ask_needed q trace s n cuts es steps points pos rises a asked ps h l = pieces_ask es asked ps h l ∙ asks_what_is_needed q trace s n cuts es steps points pos rises a l
 
 located_later : (q : Query) (trace : List StepSeen) → AllByRecursion IsInRange trace → AllByRecursion (λ (p : InnerSink). IsLocation p.loc) q.points
     → (s : ℕ) (cs : List ℕ) (front later : List EpochSummary) → AreSummaries q trace s cs (front ++ later) → AllByRecursion IsLocation (crossing later)

@@ -23,9 +23,11 @@ row_by labels k = record { sink = k.name; sources = label_words.means labels k.l
 
 -- an epoch's sinks come after the earlier ones, and the next cut has what the locations that are asked there had at the
 -- epoch's end
-pub record IsJoined (old : SourceLabels) (cut : CutLabels) (p : Piece) (sinks : List SinkLabel) (new : SourceLabels) (next : CutLabels) (all : List SinkLabel) : Type 0 where
+pub record IsJoined (old : SourceLabels) (cut : CutLabels) (p : Piece) (sinks : List SinkLabel)
+    (new : SourceLabels) (next : CutLabels) (all : List SinkLabel) : Type 0 where
   pub asked : next.asked ≡ p.requests
   pub ends_stand : AllStand new next.labels.items
   pub sinks_stand : SinksStand new all
-  pub ends : (l : Loc) → has loc_cmp l p.requests ≡ true → had new next l ≡ resolved (had old cut) ((summary_of p.summary).ends l)
+  pub ends : (l : Loc) → has loc_cmp l p.requests ≡ true
+      → had new next l ≡ resolved (had old cut) ((summary_of p.summary).ends l)
   pub rows : map (row_by new) all ≡ map (row_by old) sinks ++ rows_of (summary_of p.summary) (had old cut)

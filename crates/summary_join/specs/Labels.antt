@@ -1,5 +1,6 @@
 -- What the nodes and the locations of an epoch are labelled with, in one log of source bytes.
-use Rattle.std.specs.Prelude.{◌≡◌, ℕ, ◌+◌, ◌<◌, true, false, Bool, if◌then◌else◌, nat_lt, List, [], ◌∷◌, length, get_or, All}
+use Rattle.std.specs.Prelude.{◌≡◌, ℕ, ◌+◌, ◌<◌, true, false, Bool, if◌then◌else◌, nat_lt, All}
+use Rattle.std.specs.Prelude.{List, [], ◌∷◌, length, get_or}
 use Rattle.std.specs.Ordering.{is_eq}
 use Rattle.flow_model.specs.declared.Loc.{Loc}
 use Rattle.flow_model.specs.declared.SourceByte.{SourceByte}
@@ -22,8 +23,8 @@ AllStand labels ks = All (label_words.stands labels) ks
 
 -- ---- at a cut
 
--- the label of a location among those that were asked, whose labels stand in the same order: that of nothing where it has
--- none
+-- the label of a location among those that were asked, whose labels stand in the same order: that of nothing where it
+-- has none
 abbrev pub label_at : List Loc → List Label → Loc → Label
 label_at [] ks l = nothing_label
 label_at (m ∷ asked) [] l = nothing_label
@@ -46,14 +47,16 @@ AreMeant labels log before marks table =
     → label_words.means labels (get_or table n nothing_label) ≡ resolved before (terms log n)
 
 -- a node got a label after the nodes below it, whose labels are the table
-pub record IsNodeLabel (old : SourceLabels) (log : List Entry) (cut : CutLabels) (marks : List Bool) (table : List Label) (node : ℕ) (new : SourceLabels) (label : Label) : Type 0 where
+pub record IsNodeLabel (old : SourceLabels) (log : List Entry) (cut : CutLabels) (marks : List Bool)
+    (table : List Label) (node : ℕ) (new : SourceLabels) (label : Label) : Type 0 where
   pub keeps : KeepsLabels label_words old new
   pub stands : label_words.stands new label
   pub means : AreMeant old log (had old cut) marks table → IsMarked marks node
       → label_words.means new label ≡ resolved (had old cut) (terms log node)
 
 -- each node of an epoch's log got a label
-pub record AreNodeLabels (old : SourceLabels) (log : List Entry) (cut : CutLabels) (marks : List Bool) (new : SourceLabels) (table : List Label) : Type 0 where
+pub record AreNodeLabels (old : SourceLabels) (log : List Entry) (cut : CutLabels) (marks : List Bool)
+    (new : SourceLabels) (table : List Label) : Type 0 where
   pub keeps : KeepsLabels label_words old new
   pub count : length table ≡ length log + 1
   pub stand : AllStand new table
@@ -61,8 +64,8 @@ pub record AreNodeLabels (old : SourceLabels) (log : List Entry) (cut : CutLabel
 
 -- ---- labels of an epoch's own, carried into the one log
 
--- that of a node is taken from the table, that of a location at the epoch's start from the cut, and a run of source bytes
--- stays as it is
+-- that of a node is taken from the table, that of a location at the epoch's start from the cut, and a run of source
+-- bytes stays as it is
 abbrev pub carried_by : CutLabels → List Label → Label → LabelKind → Label
 carried_by cut table label (Node n) = get_or table n nothing_label
 carried_by cut table label (Start l) = label_at cut.asked cut.labels.items l

@@ -1,5 +1,6 @@
 pub mod Labels
 pub mod Needs
 pub mod Pieces
+pub mod PieceLaws
 pub mod Joins
 pub mod Runs

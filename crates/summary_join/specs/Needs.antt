@@ -30,7 +30,8 @@ starts_of nodes label = (node_words.means nodes label).starts
 
 -- the operands of each marked union are marked
 abbrev pub AreClosed : List Entry → List Bool → Type 0
-AreClosed log marks = (n a b : ℕ) → IsMarked marks n → entry_at log n ≡ Some (Union a b) → IsMarked marks a × IsMarked marks b
+AreClosed log marks =
+    (n a b : ℕ) → IsMarked marks n → entry_at log n ≡ Some (Union a b) → IsMarked marks a × IsMarked marks b
 
 -- where the label is a node it is marked
 abbrev pub IsCovered : List Bool → Label → Type 0
@@ -78,14 +79,16 @@ IsNotedKind marks asked (Start l) = has loc_cmp l asked ≡ true
 IsNotedKind marks asked (Run r) = Unit {0}
 
 -- some labels were noted, and nothing else
-pub record AreNoted (nodes : Nodes) (ks : List Label) (old : List Bool) (asks : List Loc) (new : List Bool) (more : List Loc) : Type 0 where
+pub record AreNoted (nodes : Nodes) (ks : List Label)
+    (old : List Bool) (asks : List Loc) (new : List Bool) (more : List Loc) : Type 0 where
   pub keeps : KeepsNeeds old asks new more
   pub noted : AllByRecursion (λ k. IsNotedKind new more (kind_of k)) ks
   pub passing : (test : Loc → Bool) → AllByRecursion (λ k. AllPass test (starts_of nodes k)) ks
       → ArePassing (log_of nodes) test old asks → ArePassing (log_of nodes) test new more
 
 -- a node was looked at: where it is marked, its operands are, or its location is asked, and nothing else is new
-pub record IsLookedAt (log : List Entry) (node : ℕ) (old : List Bool) (asks : List Loc) (new : List Bool) (more : List Loc) : Type 0 where
+pub record IsLookedAt (log : List Entry) (node : ℕ)
+    (old : List Bool) (asks : List Loc) (new : List Bool) (more : List Loc) : Type 0 where
   pub keeps : KeepsNeeds old asks new more
   pub same : (n : ℕ) → node ≤ n → IsMarked new n → IsMarked old n
   pub operands : (a b : ℕ) → IsMarked old node → entry_at log node ≡ Some (Union a b) → IsMarked new a × IsMarked new b
@@ -93,8 +96,11 @@ pub record IsLookedAt (log : List Entry) (node : ℕ) (old : List Bool) (asks : 
   pub passing : (test : Loc → Bool) → ArePassing log test old asks → ArePassing log test new more
 
 -- the marked nodes above a place were looked at
-pub record AreLookedAt (log : List Entry) (place : ℕ) (old : List Bool) (asks : List Loc) (new : List Bool) (more : List Loc) : Type 0 where
+pub record AreLookedAt (log : List Entry) (place : ℕ)
+    (old : List Bool) (asks : List Loc) (new : List Bool) (more : List Loc) : Type 0 where
   pub keeps : KeepsNeeds old asks new more
-  pub operands : (n a b : ℕ) → place < n → IsMarked new n → entry_at log n ≡ Some (Union a b) → IsMarked new a × IsMarked new b
-  pub starts : (n : ℕ) (l : Loc) → place < n → IsMarked new n → entry_at log n ≡ Some (StartEntry l) → has loc_cmp l more ≡ true
+  pub operands : (n a b : ℕ) → place < n → IsMarked new n → entry_at log n ≡ Some (Union a b)
+      → IsMarked new a × IsMarked new b
+  pub starts : (n : ℕ) (l : Loc) → place < n → IsMarked new n → entry_at log n ≡ Some (StartEntry l)
+      → has loc_cmp l more ≡ true
   pub passing : (test : Loc → Bool) → ArePassing log test old asks → ArePassing log test new more

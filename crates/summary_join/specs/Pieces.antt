@@ -8,15 +8,16 @@ use Rattle.epoch_model.specs.Crossing.{wanted}
 use Rattle.epoch_summary.specs.Summaries.{summary_of}
 use Rattle.summary_join.specs.declared.piece.Piece.{Piece}
 
--- the piece of an epoch with this summary, which asks for these locations: they are those that it wants where it has its
--- requests
+-- the piece of an epoch with this summary, which asks for these locations: they are those that it wants where it has
+-- its requests
 pub record IsPiece (e : Summary) (asked : List Loc) (p : Piece) : Type 0 where
   pub summary : summary_of p.summary ≡ e
   pub wants : (l : Loc) → has loc_cmp l asked ≡ has loc_cmp l (wanted e p.requests)
 
--- the pieces of the epochs with these summaries, that of the last epoch first. The first epoch asks for these locations; each
--- has as requests what the next one asks for, and the last one none
+-- the pieces of the epochs with these summaries, that of the last epoch first. The first epoch asks for these
+-- locations; each has as requests what the next one asks for, and the last one none
 abbrev pub ArePieces : List Summary → List Loc → List Piece → Type 0
 ArePieces [] asked ps = (asked ≡ []) × (ps ≡ [])
 ArePieces (e ∷ es) asked ps =
-    (later : List Piece) × (p : Piece) × (ps ≡ later ++ p ∷ []) × IsPiece e asked p × ArePieces es p.requests later
+    (later : List Piece) × (p : Piece) × (ps ≡ later ++ p ∷ [])
+    × IsPiece e asked p × ArePieces es p.requests later

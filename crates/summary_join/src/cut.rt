@@ -7,8 +7,8 @@ use epoch_summary::Asked;
 use flow_model::Loc;
 use taint_shadow::Label;
 
-/// The locations that an epoch asks for, and the labels of what they had at its start, in the same order. Those past the last
-/// label had nothing.
+/// The locations that an epoch asks for, and the labels of what they had at its start, in the same order. Those past
+/// the last label had nothing.
 #[derive(Drop)]
 pub struct CutLabels {
     pub(crate) asked: Asked,

@@ -16,8 +16,9 @@ use source_labels::SourceLabels;
 use std::alloc::Global;
 use taint_shadow::{Label, LabelKind, SinkLabel};
 
-/// Puts the sinks of an epoch after those of the earlier ones, each with its label in the one log, and gives what the locations
-/// that the next epoch asks for had at the epoch's end. The epoch is let go. When out of memory, part of this may be done.
+/// Puts the sinks of an epoch after those of the earlier ones, each with its label in the one log, and gives what the
+/// locations that the next epoch asks for had at the epoch's end. The epoch is let go. When out of memory, part of this
+/// may be done.
 pub fn join_epoch(
     alloc: Global,
     labels: &mut SourceLabels,

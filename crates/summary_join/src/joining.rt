@@ -20,8 +20,9 @@ use source_labels::SourceLabels;
 use std::alloc::Global;
 use taint_shadow::SinkLabel;
 
-/// The rows of a run in its order, of the summaries of all its epochs. A summary is let go as soon as its nodes are labelled. It
-/// gives up with NoMemory alone.
+/// The rows of a run, in its order, of the summaries of all its epochs, where it is cut and analysed in any way: each
+/// output byte and each point that the query asks for, with the source bytes that it came from. A summary is let go as
+/// soon as its nodes are labelled. It gives up with NoMemory alone.
 pub fn join(alloc: Global, summaries: Vec<Summary>) -> Result<SinkSets, NoMemory>
     requires { (run : CutTrace) × AreOfRun run (map summary_of summaries.items) }
     ensures { (run : CutTrace) → AreOfRun run (map summary_of summaries.items)
@@ -41,8 +42,8 @@ pub fn join(alloc: Global, summaries: Vec<Summary>) -> Result<SinkSets, NoMemory
     Ok(SinkSets::from_vec(rows))
 }
 
-/// The pieces of all epochs, that of the last one first, and what the first one asks for: each epoch asks the one before it for
-/// what its sinks and the next epoch's requests come from. It gives up with NoMemory alone.
+/// The pieces of all epochs, that of the last one first, and what the first one asks for: each epoch asks the one
+/// before it for what its sinks and the next epoch's requests come from. It gives up with NoMemory alone.
 fn ask(alloc: Global, mut summaries: Vec<Summary>) -> Result<(Vec<Piece>, Asked), NoMemory>
     requires { (run : CutTrace) × AreOfRun run (map summary_of summaries.items) }
     ensures { IfOk result (λ r. ArePieces (map summary_of summaries.items) r.1 r.0.items) }
@@ -57,8 +58,8 @@ fn ask(alloc: Global, mut summaries: Vec<Summary>) -> Result<(Vec<Piece>, Asked)
     Ok((pieces, asked))
 }
 
-/// The sinks of all epochs, each with its label in one log, of their pieces, that of the last one first. The first one asks for
-/// these locations, where nothing was at the run's start. It gives up with NoMemory alone.
+/// The sinks of all epochs, each with its label in one log, of their pieces, that of the last one first. The first one
+/// asks for these locations, at which there was nothing at the run's start. It gives up with NoMemory alone.
 fn label(
     alloc: Global,
     mut pieces: Vec<Piece>,

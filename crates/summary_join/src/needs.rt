@@ -10,7 +10,8 @@ ghost use Rattle.taint_shadow.specs.Labels.{kind_of};
 ghost use Rattle.source_labels.specs.Words.{HaveNodesIn, log_of, node_or_nothing, node_words};
 ghost use Rattle.source_labels.specs.declared.nodes.Nodes.{Nodes as AnyNodes};
 ghost use Rattle.epoch_summary.specs.Summaries.{nodes_of, sinks_of};
-ghost use Rattle.summary_join.specs.Needs.{AreLookedAt, AreNeeded, AreNoted, IsLookedAt, asked_with, marks_with, roots, starts_of};
+ghost use Rattle.summary_join.specs.Needs.{AreLookedAt, AreNeeded, AreNoted, IsLookedAt};
+ghost use Rattle.summary_join.specs.Needs.{asked_with, marks_with, roots, starts_of};
 
 use epoch_summary::{Asked, Summary};
 use merge_log::{Entry, MergeLog};
@@ -18,8 +19,8 @@ use no_memory::NoMemory;
 use std::alloc::Global;
 use taint_shadow::{Label, LabelKind};
 
-/// The nodes of an epoch's log, by their numbers, that its sinks and these labels come from, and the start locations among what
-/// they come from, each once. It gives up with NoMemory alone.
+/// Which nodes of an epoch's log, by their numbers, its sinks and these labels come from, and the start locations among
+/// what they come from, each once. It gives up with NoMemory alone.
 pub fn find_needs(
     alloc: Global,
     summary: &Summary,
@@ -28,7 +29,8 @@ pub fn find_needs(
     requires { All (node_words.stands (nodes_of summary.now)) ends.now }
     ensures needed { IfOk result (λ r. AreNeeded summary.now ends.now r.0.items) }
     ensures asked { IfOk result (λ r. (l : Location)
-        → has loc_cmp l r.1 ≡ has loc_cmp l (flat_map (starts_of (nodes_of summary.now)) (roots summary.now ends.now))) }
+        → has loc_cmp l r.1
+        ≡ has loc_cmp l (flat_map (starts_of (nodes_of summary.now)) (roots summary.now ends.now))) }
 {
     let log = summary.nodes().log();
     log.form(); // so that nodes fit into 32 bits
@@ -44,7 +46,8 @@ pub fn find_needs(
 fn note_sinks(summary: &Summary, marks: &mut Vec<bool>, asked: &mut Asked) -> Result<(), NoMemory>
     requires { length marks.old.items ≡ length (log_of (nodes_of summary.now)) + 1 }
     ensures noted { OnOk result ((nodes : AnyNodes)
-        → AreNoted nodes (map (λ k. k.label) (sinks_of summary.now)) marks.old.items asked.old marks.new.items asked.new) }
+        → AreNoted nodes (map (λ k. k.label) (sinks_of summary.now))
+        marks.old.items asked.old marks.new.items asked.new) }
     ensures stand { HaveNodesIn (nodes_of summary.now) (sinks_of summary.now) }
 {
     let sinks = summary.sinks();
@@ -86,8 +89,8 @@ fn note(label: Label, marks: &mut Vec<bool>, asked: &mut Asked) -> Result<(), No
     }
 }
 
-/// Looks at each node, from the last to the first: marks the operands of those that are marked, and asks for the start locations
-/// among these. When out of memory, part of this may be done.
+/// Looks at each node, from the last to the first: marks the operands of those that are marked, and asks for the start
+/// locations among these. When out of memory, part of this may be done.
 fn look_through(log: &MergeLog, marks: &mut Vec<bool>, asked: &mut Asked) -> Result<(), NoMemory>
     requires { length marks.old.items ≡ length log.now + 1 }
     ensures { OnOk result (AreLookedAt log.now 0 marks.old.items asked.old marks.new.items asked.new) }
@@ -100,8 +103,8 @@ fn look_through(log: &MergeLog, marks: &mut Vec<bool>, asked: &mut Asked) -> Res
     Ok(())
 }
 
-/// Marks the operands of a node, or asks for the location that it is of, where the node is marked. When out of memory nothing
-/// changes.
+/// Marks the operands of a node, or asks for the location that it is of, where the node is marked. When out of memory
+/// nothing changes.
 fn look_at(
     log: &MergeLog,
     node: u32,

@@ -13,9 +13,9 @@ use source_runs::SourceRun;
 use std::alloc::Global;
 use taint_shadow::{Label, Labels};
 
-/// The label of each marked node of an epoch's log, by its number, where this is what locations had at the epoch's start. The
-/// operands of marked nodes are marked. Each is made once, after those of its operands. When out of memory, part of them may
-/// be made.
+/// The label of each marked node of an epoch's log, by its number, where this is what locations had at the epoch's
+/// start. The operands of marked nodes are marked. Each is made once, after those of its operands. When out of memory,
+/// part of them may be made.
 pub fn label_nodes(
     alloc: Global,
     labels: &mut SourceLabels,

@@ -28,8 +28,8 @@ pub struct Piece {
 impl Piece {
     ghost use Rattle.summary_join.specs.Pieces.{IsPiece};
 
-    /// Of an epoch that the next one asks for these locations. It gives also what the epoch asks of the one before it: each
-    /// location at its start from which its sinks, or the requests, come. It gives up with NoMemory alone.
+    /// Of an epoch that the next one asks for these locations. It gives also what the epoch asks of the one before it:
+    /// each location at its start that its sinks, or the requests, come from. It gives up with NoMemory alone.
     pub fn new(alloc: Global, summary: Summary, requests: Asked) -> Result<(Piece, Asked), NoMemory>
         requires { All IsLocation requests }
         ensures requests { IfOk result (λ r. r.0.requests ≡ requests) }
