@@ -1,8 +1,8 @@
 //! Who analyses the epochs of a run: what is asked of an engine, and what it collects.
 //!
-//! Crates above rest on this: an [`Engine`] that is ready gives the rows of a run that is cut, what is asked at its inner
-//! cuts, and how many events moved. It may hold a runtime, start threads and wait; whoever asks it names none of these. A
-//! [`ClosureEngine`] is an engine that is made of a closure, and ready where the closure gives what is asked.
+//! Crates above rest on this: an [`Engine`] that is ready gives the rows of a run that is cut; and also what is asked at its
+//! inner cuts, and how many events moved. It may hold a runtime, start threads and wait; whoever asks it names none of these.
+//! A [`ClosureEngine`] is an engine that is made of two closures, and ready where these give what is asked.
 #![tactic(auto)]
 
 mod collected;
@@ -11,4 +11,4 @@ mod parallelism;
 
 pub use collected::Collected;
 pub use engine::{ClosureEngine, Engine};
-pub use parallelism::{Drivers, Parallelism};
+pub use parallelism::{Joining, Parallelism};

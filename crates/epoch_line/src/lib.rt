@@ -1,11 +1,12 @@
-//! The line of a run's nodes: one for each epoch, joined by links, worked by a board, and collected.
+//! The epochs of a run, analysed in threads and joined: what an engine of `epoch_engine` does.
 //!
-//! Crates above rest on this: `work` lays the nodes of a run out, gives them their turns and collects what they come to:
-//! the rows of the run, what was asked at each inner cut, and the number of events that moved, for every number of
-//! workers, capacity and schedule. It is what an engine of `epoch_engine` does by threads. The nodes are laid out and
-//! collected by `epoch_layout`, and `epoch_turns` gives them their turns.
+//! Crates above rest on this: `rows` gives the rows of a run that is cut, for every number of workers, capacity and schedule,
+//! whether its epochs are joined by links or by one log. `work` gives also what was asked at each inner cut, and the number
+//! of events that moved: it lays the run's nodes out, one for each epoch, joined by links, gives them their turns, and
+//! collects what they come to. The nodes are laid out and collected by `epoch_layout`, and `epoch_turns` gives them their
+//! turns. `epoch_analysis` has the analyses without nodes, and `summary_join` joins what they found in one log.
 #![tactic(auto)]
 
 mod working;
 
-pub use working::work;
+pub use working::{rows, work};

@@ -1,19 +1,22 @@
-//! A run's line of nodes, from its layout to what it comes to.
+//! The rows of a run that is cut, from its epochs to what these come to.
 
 ghost use Rattle.std.specs.Prelude.{IfOk};
-ghost use Rattle.epoch_engine.specs.Collecting.{AreAtBeginnings, IsCollectedOf};
+ghost use Rattle.epoch_engine.specs.Collecting.{AreAtBeginnings, AreRowsOf, IsCollectedOf};
 
 use checkpoints::Checkpoints;
+use epoch_analysis::analyse_all;
 use epoch_cut::Cuts;
-use epoch_engine::{Collected, Parallelism};
+use epoch_engine::{Collected, Joining, Parallelism};
 use epoch_layout::{collect, lay_out};
 use epoch_turns::work_in_groups;
 use no_memory::NoMemory;
 use outer_io::Gate;
 use query_lang::Query;
+use sink_collect::SinkSets;
 use std::alloc::Global;
 use std::sync::Wait;
 use std::thread::Threads;
+use summary_join::join;
 
 /// The rows of a run that is cut, what crosses its inner cuts, and how many events moved, by a node for each epoch, in
 /// threads of `rt`. Each node enters the gate as it begins. It gives up with NoMemory alone.
@@ -31,12 +34,49 @@ pub fn work<G: Gate, R: Threads + Wait + Sync>(
 {
     let Parallelism {
         workers,
-        drivers,
+        joining: _,
         link,
     } = parallelism;
     // The contract of this says that the epochs are few.
     let _count = cuts.count();
     let nodes = lay_out(alloc, checkpoints, query, gate, cuts, link)?;
-    let done = work_in_groups(rt, alloc, nodes, workers, drivers)?;
+    let done = work_in_groups(rt, alloc, nodes, workers)?;
     collect(alloc, done)
+}
+
+/// The rows of a run that is cut, by the analyses of its epochs in threads of `rt`, which are joined by links or by one
+/// log. Each epoch enters the gate as its analysis begins. It gives up with NoMemory alone.
+pub fn rows<G: Gate, R: Threads + Wait + Sync>(
+    rt: &R,
+    alloc: Global,
+    gate: &G,
+    checkpoints: &Checkpoints<'_>,
+    query: &Query,
+    cuts: Cuts,
+    parallelism: Parallelism,
+) -> Result<SinkSets, NoMemory>
+    requires { AreAtBeginnings cuts checkpoints.now }
+    ensures { IfOk result (AreRowsOf query.now checkpoints.now.job) }
+{
+    match parallelism.joining {
+        Joining::ByLinks => {
+            let Collected { sets, .. } = work(
+                rt,
+                alloc,
+                gate,
+                checkpoints,
+                query,
+                cuts,
+                parallelism,
+            )?;
+            Ok(sets)
+        }
+        Joining::ByOneLog => {
+            // The contract of this says that the points are at locations.
+            let _points = query.points();
+            let workers = parallelism.workers;
+            let summaries = analyse_all(rt, alloc, gate, checkpoints, query, cuts, workers)?;
+            join(alloc, summaries)
+        }
+    }
 }

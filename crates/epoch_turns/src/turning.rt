@@ -8,7 +8,6 @@ ghost use Rattle.epoch_turns.specs.Groups.{number_of, AreOfOneJob};
 
 use crate::own_work::OwnWork;
 use crate::splitting::{join, split};
-use epoch_engine::Drivers;
 use epoch_node::Node;
 use no_memory::NoMemory;
 use outer_io::Gate;
@@ -86,45 +85,17 @@ fn turn_all<'a, G: Gate, R: Threads + Wait + Sync>(
     join(alloc, done)
 }
 
-/// Gives 1 to 4096 nodes of one job, whose numbers are 0, 1, 2 and so on, turns until each is done. Where all `workers`,
-/// 1 to 64 of them, drive the nodes, a node's first turn analyses its epoch. Where one does, all of them analyse the
-/// epochs before. It gives up with NoMemory alone.
-fn drive<'a, G: Gate, R: Threads + Wait + Sync>(
-    rt: &R,
-    alloc: Global,
-    nodes: Vec<Node<'a, G>>,
-    workers: u32,
-    drivers: Drivers,
-) -> Result<Vec<Node<'a, G>>, NoMemory>
-    requires numbers { AreNumbered number_of nodes.items }
-    requires count { (1 ≤ length nodes.items) × (length nodes.items ≤ 4096) }
-    requires one_job { AreOfOneJob nodes.items }
-    requires workers { (1 ≤ workers) × (workers ≤ 64) }
-    ensures ended { IfOk result (λ done. All IsDone done.items) }
-    ensures led { IfOk result (λ done. AllZip IsLedFrom done.items nodes.entry.items) }
-{
-    match drivers {
-        Drivers::AllWorkers => turn_all(rt, alloc, nodes, workers),
-        Drivers::OneWorker => {
-            let begun = work_apart(rt, alloc, nodes, workers)?;
-            turn_all(rt, alloc, begun, 1)
-        }
-    }
-}
-
 /// Gives 1 to 4096 nodes of one job, whose numbers are 0, 1, 2 and so on, turns until each is done, by `workers`, 1 to
 /// 64 of them. It answers them in order of number, each led from the one handed in with that number. It gives up with
 /// NoMemory alone.
 ///
-/// All workers analyse the epochs, which need nothing of each other, and at last make their rows. What nodes ask and
-/// answer in between goes from one to the next. The `drivers` give them the turns for that: all workers, each to a group
-/// of its own, or one worker, so that none waits for another.
+/// There are as many groups of neighbours as workers, or as nodes where these are fewer. At last all workers make the rows,
+/// each those of the epochs that it takes.
 pub fn work_in_groups<'a, G: Gate, R: Threads + Wait + Sync>(
     rt: &R,
     alloc: Global,
     nodes: Vec<Node<'a, G>>,
     workers: u32,
-    drivers: Drivers,
 ) -> Result<Vec<Node<'a, G>>, NoMemory>
     requires numbers { AreNumbered number_of nodes.items }
     requires count { (1 ≤ length nodes.items) × (length nodes.items ≤ 4096) }
@@ -139,6 +110,6 @@ pub fn work_in_groups<'a, G: Gate, R: Threads + Wait + Sync>(
     if workers == 1 {
         return turn_all(rt, alloc, nodes, 1);
     }
-    let done = drive(rt, alloc, nodes, workers, drivers)?;
+    let done = turn_all(rt, alloc, nodes, workers)?;
     work_apart(rt, alloc, done, workers)
 }

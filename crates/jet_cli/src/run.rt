@@ -5,18 +5,19 @@ ghost use Rattle.jet_words.specs.CommandLine.{jet_app};
 ghost use Rattle.jet_commands.specs.Targets.{IfFile, OpensAll, OpensFirst, KeepsAll, KeepsBut};
 ghost use Rattle.jet_commands.specs.Plans.{command_in, target_in, files_of, IfUntimedIn};
 ghost use Rattle.outer_io.specs.Outside.{change};
-ghost use Rattle.epoch_engine.specs.Collecting.{AreAtBeginnings, IsCollectedOf};
+ghost use Rattle.epoch_engine.specs.Collecting.{AreAtBeginnings, AreRowsOf, IsCollectedOf};
 ghost use Rattle.jet_commands.specs.Ending.{IsUnwritten, Says};
 ghost use Rattle.jet_cli.specs.Statuses.{IsStatus, IsDone, IsDoneInPart, IsRefused, IsDecided, IsComplete};
 
 use checkpoints::Checkpoints;
 use epoch_cut::Cuts;
 use epoch_engine::{ClosureEngine, Collected, Parallelism};
-use epoch_line::work;
+use epoch_line::{rows, work};
 use jet_commands::{conclude, obey};
 use no_memory::NoMemory;
 use outer_io::{Clock, Gate, Sink, Store};
 use query_lang::Query;
+use sink_collect::SinkSets;
 use std::sync::Wait;
 use std::thread::Threads;
 
@@ -63,6 +64,12 @@ pub fn jet<R: Threads + Wait + Sync + AllocGlobal, S: Store, O: Sink, E: Sink, K
     let alloc = rt.alloc();
     let line = ClosureEngine {
         gate,
+        rows: |checkpoints: &Checkpoints<
+            '_,
+        >, query: &Query, cuts: Cuts, parallelism: Parallelism| -> Result<SinkSets, NoMemory>
+            requires { AreAtBeginnings cuts checkpoints.now }
+            ensures { IfOk result (AreRowsOf query.entry.now checkpoints.entry.now.job) }
+        { rows(rt, alloc, gate, checkpoints, query, cuts, parallelism) },
         work: |checkpoints: &Checkpoints<
             '_,
         >, query: &Query, cuts: Cuts, parallelism: Parallelism| -> Result<Collected, NoMemory>

@@ -24,7 +24,7 @@ use crate::parts::part_for;
 use crate::path::pair_told;
 use crate::pieces::Answer;
 use crate::reports::{own_parts, union_of};
-use crate::resources::{Resources, drivers_of, parallelism_of};
+use crate::resources::{Resources, parallelism_of};
 use crate::tellings::{Format, fitted, told};
 use decision_find::check_and_decide;
 use epoch_engine::Engine;
@@ -63,7 +63,7 @@ fn analysed_run<E: Engine>(
                 log,
                 query,
                 part,
-                parallelism_of(pipeline, drivers_of(pipeline)),
+                parallelism_of(pipeline),
             )?;
             Ok(found)
         }

@@ -19,7 +19,7 @@ use crate::pieces::Answer;
 use crate::resources::{Resources, parallelism_of};
 use crate::tellings::fitted;
 use epoch_cut::Cuts;
-use epoch_engine::{Drivers, Engine};
+use epoch_engine::Engine;
 use jet_refusal::Refusal;
 use jet_words::Pipeline;
 use no_memory::NoMemory;
@@ -56,7 +56,7 @@ fn count_asked(crossed: &[Crossed]) -> u64
     count
 }
 
-/// The numbers of a query over the run, of which the epochs are analysed, and driven by all workers.
+/// The numbers of a query over the run, of which the epochs are analysed.
 fn numbers<E: Engine>(
     resources: &Resources<'_, E>,
     job: &Job,
@@ -76,7 +76,7 @@ fn numbers<E: Engine>(
         job,
         query,
         cuts,
-        parallelism_of(pipeline, Drivers::AllWorkers),
+        parallelism_of(pipeline),
     )?;
     let text = text(resources.alloc, &found.report)?;
     Ok(Numbers {

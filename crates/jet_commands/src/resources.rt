@@ -2,9 +2,9 @@
 
 ghost use Rattle.std.specs.Prelude.{◌≡◌};
 ghost use Rattle.jet_words.specs.Commands.{IsPipeline};
-ghost use Rattle.jet_commands.specs.Resources.{link_capacity, drivers_by};
+ghost use Rattle.jet_commands.specs.Resources.{link_capacity, joining_by};
 
-use epoch_engine::{Drivers, Parallelism};
+use epoch_engine::{Joining, Parallelism};
 use epoch_link::Capacity;
 use jet_words::Pipeline;
 use std::alloc::Global;
@@ -19,30 +19,28 @@ pub struct Resources<'a, E> {
     pub alloc: Global,
 }
 
-/// Who drives what epochs ask and answer: all workers, where the words tell the length of the epochs or the capacity of
-/// the links.
-pub fn drivers_of(pipeline: Pipeline) -> Drivers
-    ensures { result ≡ drivers_by pipeline.epoch pipeline.link }
+/// How epochs are joined: by links, where the words tell the length of the epochs or the capacity of the links.
+fn joining_of(pipeline: Pipeline) -> Joining
+    ensures { result ≡ joining_by pipeline.epoch pipeline.link }
 {
     match (pipeline.epoch, pipeline.link) {
-        (None, None) => Drivers::OneWorker,
-        (None, Some(_)) => Drivers::AllWorkers,
-        (Some(_), _) => Drivers::AllWorkers,
+        (None, None) => Joining::ByOneLog,
+        (None, Some(_)) => Joining::ByLinks,
+        (Some(_), _) => Joining::ByLinks,
     }
 }
 
-/// How many workers analyse epochs, and over how large links, as the words tell it, where these drive what is asked and
-/// answered.
-pub fn parallelism_of(pipeline: Pipeline, drivers: Drivers) -> Parallelism
+/// How many workers analyse epochs, how these are joined, and over how large links, as the words tell it.
+pub fn parallelism_of(pipeline: Pipeline) -> Parallelism
     requires { IsPipeline pipeline }
     ensures workers { result.workers ≡ pipeline.workers }
-    ensures drivers { result.drivers ≡ drivers }
+    ensures joining { result.joining ≡ joining_by pipeline.epoch pipeline.link }
     ensures link { result.link ≡ link_capacity pipeline.link }
 {
     let capacity = pipeline.link.unwrap_or(LINK_CAPACITY) as u32;
     Parallelism {
         workers: pipeline.workers,
-        drivers,
+        joining: joining_of(pipeline),
         link: Capacity::of(capacity),
     }
 }

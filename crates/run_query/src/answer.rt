@@ -114,3 +114,22 @@ pub(crate) fn answer_of_epochs<E: Engine>(
     let collected = engine.collected(checkpoints, query, cuts, parallelism)?;
     answer_with(alloc, job, query, collected)
 }
+
+/// The report of a run by an engine, of its epochs, which begin at these checkpoints. It gives up with NoMemory alone.
+pub(crate) fn report_of_epochs<E: Engine>(
+    engine: &E,
+    alloc: Global,
+    job: &Job,
+    checkpoints: &Checkpoints<'_>,
+    query: &Query,
+    cuts: Cuts,
+    parallelism: Parallelism,
+) -> Result<Report, NoMemory>
+    requires ready { E.ready engine.now }
+    requires cuts { IsCutting (steps job.now.log) cuts }
+    requires checkpoints { checkpoints.now ≡ record { job = job.now; times = beginnings cuts } }
+    ensures { IfOk result (λ report. report ≡ rows query.now (trace_of job.now)) }
+{
+    let sets = engine.rows(checkpoints, query, cuts, parallelism)?;
+    report_of(alloc, job, query, sets.into_vec())
+}

@@ -5,7 +5,7 @@ ghost use Rattle.report_model.specs.Rows.{rows};
 ghost use Rattle.replayer.specs.Jobs.{trace_of};
 ghost use Rattle.run_query.specs.Parts.{AreEnough};
 
-use crate::whole;
+use crate::whole::report;
 use epoch_cut::Cuts;
 use epoch_engine::{Engine, Parallelism};
 use no_memory::NoMemory;
@@ -35,7 +35,7 @@ pub(crate) fn query_beginning<E: Engine>(
     job.form();
     beginning_has_rows();
     let (beginning, tail) = cut_off(job, steps)?;
-    let answer = whole::query(engine, alloc, &beginning, query, cuts, parallelism)?;
+    let report = report(engine, alloc, &beginning, query, cuts, parallelism)?;
     let job = put_back(beginning, tail)?;
-    Ok((job, answer.report))
+    Ok((job, report))
 }

@@ -10,7 +10,7 @@ ghost use Rattle.replayer.specs.Jobs.{trace_of};
 ghost use Rattle.run_query.specs.Checking.{AreTakenFor};
 ghost use Rattle.run_query.specs.Parts.{IsEnough};
 
-use crate::answer::{answer_of_epochs, report_of};
+use crate::answer::{report_of, report_of_epochs};
 use crate::beginning::query_beginning;
 use crate::checking::check_parts;
 use crate::part::Part;
@@ -84,6 +84,5 @@ fn report_of_taken<E: Engine>(
     ensures { IfOk result (λ report. report ≡ rows query.now (trace_of job.now)) }
 {
     let checkpoints = taker.finish(job)?;
-    let answer = answer_of_epochs(engine, alloc, job, &checkpoints, query, cuts, parallelism)?;
-    Ok(answer.report)
+    report_of_epochs(engine, alloc, job, &checkpoints, query, cuts, parallelism)
 }
