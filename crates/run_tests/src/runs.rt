@@ -13,7 +13,7 @@ use crate::guests::{
 use checkpoints::Checkpoints;
 use epoch_cut::laws::cut_times_are_cutting;
 use epoch_cut::{Cuts, cuts};
-use epoch_engine::{Drivers, Parallelism};
+use epoch_engine::{Joining, Parallelism};
 use epoch_link::Capacity;
 use flow_model::{Loc, SinkByte, SinkPoint, SourceByte};
 use jet_core::{Crossed, joined, query, round_robin};
@@ -24,24 +24,18 @@ use seq_taint::sequential;
 use sink_collect::{Report, gather, text};
 use std::process::Abort;
 
-/// How many workers there are, who of them drive the epochs' nodes, and how many messages a link between two nodes
-/// holds.
+/// How many workers there are, and how many messages a link between two nodes holds.
 #[derive(Clone, Copy)]
 struct Line {
     workers: u32,
-    drivers: Drivers,
     capacity: u32,
 }
 
 /// One worker, and the smallest links.
 const ALONE: Line = Line {
     workers: 1,
-    drivers: Drivers::AllWorkers,
     capacity: 1,
 };
-
-/// Who may drive the nodes.
-const DRIVERS: [Drivers; 2] = [Drivers::AllWorkers, Drivers::OneWorker];
 
 /// Where a run is cut by a length.
 pub fn cuts_of(rt: &impl Abort, job: &Job, length: u64) -> Cuts
@@ -75,16 +69,12 @@ fn answer_of<G: Gate>(
     length: u64,
     line: Line,
 ) -> Answer {
-    let Line {
-        workers,
-        drivers,
-        capacity,
-    } = line;
+    let Line { workers, capacity } = line;
     assert!(rt; 1 <= workers);
     assert!(rt; workers <= 64);
     let parallelism = Parallelism {
         workers,
-        drivers,
+        joining: Joining::ByLinks,
         link: Capacity::new(capacity).expect(rt, "a capacity"),
     };
     let cuts = cuts_of(rt, job, length);
@@ -117,7 +107,7 @@ fn answer_by_rounds<G: Gate>(
     }
 }
 
-/// The report where the epochs' summaries are joined by lists.
+/// The report where the epochs' summaries are joined by one log.
 fn joined_report(rt: &impl Runtime, job: &Job, wanted: &Query, length: u64) -> Report {
     joined(rt, rt.alloc(), job, wanted, cuts_of(rt, job, length)).expect(rt, "memory")
 }
@@ -269,22 +259,16 @@ fn assert_copied(rt: &impl Runtime, found: &Answer, length: u64) {
     assert!(rt; found.events == events);
 }
 
-/// By epochs of so many steps, so many workers and these drivers, the copy of four bytes has the same answers over links
-/// of each capacity.
+/// By epochs of so many steps and so many workers, the copy of four bytes has the same answers over links of each capacity.
 fn assert_copied_by_workers(
     rt: &impl Runtime,
     job: &Job,
     wanted: &Query,
     length: u64,
     workers: u32,
-    drivers: Drivers,
 ) {
     for capacity in [1, 2, 256] {
-        let line = Line {
-            workers,
-            drivers,
-            capacity,
-        };
+        let line = Line { workers, capacity };
         let found = answer_of(rt, &OpenGate, job, wanted, length, line);
         assert_copied(rt, &found, length);
     }
@@ -303,9 +287,7 @@ fn assert_copied_by_all(rt: &impl Runtime, job: &Job, wanted: &Query, length: u6
     let report = joined_report(rt, job, wanted, length);
     assert_text(rt, &report, COPIED);
     for workers in [1, 2, 4, 8, 64] {
-        for drivers in DRIVERS {
-            assert_copied_by_workers(rt, job, wanted, length, workers, drivers);
-        }
+        assert_copied_by_workers(rt, job, wanted, length, workers);
     }
     assert_copied_by_rounds(rt, job, wanted, length);
 }
@@ -392,13 +374,12 @@ fn a_long_run_is_joined(rt: HostRuntime) {
     assert!(rt; text(rt.alloc(), &report).expect(&rt, "memory").len() == 67789);
 }
 
-/// That run is followed by twenty-six epochs, by so many workers, of whom these drive the nodes.
-fn assert_many_by(rt: &impl Runtime, workers: u32, drivers: Drivers) {
+/// That run is followed by twenty-six epochs, by so many workers.
+fn assert_many_by(rt: &impl Runtime, workers: u32) {
     let job = copy_many(rt);
     let wanted = query_of(rt, COPY);
     let line = Line {
         workers,
-        drivers,
         capacity: 256,
     };
     let found = answer_of(rt, &OpenGate, &job, &wanted, 1000, line);
@@ -409,22 +390,17 @@ fn assert_many_by(rt: &impl Runtime, workers: u32, drivers: Drivers) {
 
 #[test]
 fn a_long_run_is_followed_by_one_worker(rt: HostRuntime) {
-    assert_many_by(&rt, 1, Drivers::AllWorkers);
+    assert_many_by(&rt, 1);
 }
 
 #[test]
 fn a_long_run_is_followed_by_three_workers(rt: HostRuntime) {
-    assert_many_by(&rt, 3, Drivers::AllWorkers);
-}
-
-#[test]
-fn a_long_run_that_three_workers_analyse_is_followed_by_one(rt: HostRuntime) {
-    assert_many_by(&rt, 3, Drivers::OneWorker);
+    assert_many_by(&rt, 3);
 }
 
 #[test]
 fn a_long_run_is_followed_by_the_most_workers(rt: HostRuntime) {
-    assert_many_by(&rt, 64, Drivers::AllWorkers);
+    assert_many_by(&rt, 64);
 }
 
 /// Of the windows at the beginnings of its epochs the first has five pages. The two pages that are read to change once; those

@@ -1,10 +1,7 @@
 //! Gates that epochs enter.
 
-use super::{
-    ALONE, COPIED, COPY, DRIVERS, Line, answer_by_rounds, answer_of, assert_text, query_of,
-};
+use super::{ALONE, COPIED, COPY, Line, answer_by_rounds, answer_of, assert_text, query_of};
 use crate::guests::{COPY_FOUR, Runtime, job_of};
-use epoch_engine::Drivers;
 use memory_outside::{CountingGate, MeetingGate};
 use replayer::Job;
 
@@ -14,24 +11,6 @@ fn assert_each_enters_once(rt: &impl Runtime, job: &Job, length: u64, epochs: u3
     let gate = CountingGate::new(rt.alloc(), epochs).expect(rt, "memory");
     let _found = answer_of(rt, &gate, job, &wanted, length, line);
     assert!(rt; gate.is_entered_by_each_once());
-}
-
-/// The same, where so many workers analyse them, whoever drives the nodes.
-fn assert_each_enters_once_by_workers(
-    rt: &impl Runtime,
-    job: &Job,
-    length: u64,
-    epochs: u32,
-    workers: u32,
-) {
-    for drivers in DRIVERS {
-        let line = Line {
-            workers,
-            drivers,
-            ..ALONE
-        };
-        assert_each_enters_once(rt, job, length, epochs, line);
-    }
 }
 
 /// The same by rounds.
@@ -51,31 +30,24 @@ fn each_epoch_enters_the_gate_once(rt: HostRuntime) {
     let job = job_of(&rt, &COPY_FOUR);
     for (length, epochs) in LENGTHS {
         for workers in [1, 2, 8] {
-            assert_each_enters_once_by_workers(&rt, &job, length, epochs, workers);
+            let line = Line { workers, ..ALONE };
+            assert_each_enters_once(&rt, &job, length, epochs, line);
         }
         assert_each_enters_once_by_rounds(&rt, &job, length, epochs);
     }
 }
 
 /// With two workers, two epochs are in their analyses at once.
-fn assert_two_meet(rt: &impl Runtime, job: &Job, drivers: Drivers) {
-    let wanted = query_of(rt, COPY);
-    let gate = MeetingGate::new(rt.alloc()).expect(rt, "memory");
-    let line = Line {
-        workers: 2,
-        drivers,
-        ..ALONE
-    };
-    let found = answer_of(rt, &gate, job, &wanted, 6, line);
-    assert!(rt; gate.is_met());
-    assert_text(rt, &found.report, COPIED);
-}
-
-/// Whoever drives the nodes of two epochs, each of them is analysed while the other one is.
 #[test]
 fn two_epochs_are_at_work_at_once(rt: HostRuntime) {
     let job = job_of(&rt, &COPY_FOUR);
-    for drivers in DRIVERS {
-        assert_two_meet(&rt, &job, drivers);
-    }
+    let wanted = query_of(&rt, COPY);
+    let gate = MeetingGate::new(rt.alloc()).expect(&rt, "memory");
+    let line = Line {
+        workers: 2,
+        ..ALONE
+    };
+    let found = answer_of(&rt, &gate, &job, &wanted, 6, line);
+    assert!(rt; gate.is_met());
+    assert_text(&rt, &found.report, COPIED);
 }

@@ -1,4 +1,4 @@
-//! The groups of neighbouring epochs that workers have, where all of them drive the nodes.
+//! The groups of neighbouring epochs that workers have.
 
 use super::{ALONE, COPIED, COPY, Line, answer_of, assert_text, query_of};
 use crate::guests::{COPY_FOUR, Runtime, job_of};
