@@ -4,9 +4,9 @@
 //! from the one that was handed in. `laws` say that a broken node of a group stays so.
 //!
 //! A message passes only from a node to its neighbour. So nodes get their turns at a board whose tasks are groups of
-//! neighbours, as many as there are workers. In a turn of a group a message passes the whole group, in both directions, so
-//! that runs of many epochs need few rounds of the board. A node's first turn analyses its epoch. At last all workers make
-//! the rows, each those of the epochs that it takes.
+//! neighbours, as many as there are workers, or of up to 64 nodes where there is one. In a turn of a group a message
+//! passes the whole group, in both directions, so that runs of many epochs need few rounds of the board. A node's first
+//! turn analyses its epoch. At last all workers make the rows, each those of the epochs that it takes.
 #![tactic(auto)]
 
 mod answers;

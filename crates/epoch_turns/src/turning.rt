@@ -16,6 +16,9 @@ use std::alloc::Global;
 use std::sync::Wait;
 use std::thread::Threads;
 
+/// How many nodes a group has at most that one worker alone turns: groups that are done leave the board.
+const MOST_NODES: u32 = 64;
+
 /// The own work of each of these nodes. It gives up with NoMemory alone.
 fn into_tasks<'a, G>(
     alloc: Global,
@@ -64,7 +67,7 @@ fn work_apart<'a, G: Gate, R: Threads + Wait + Sync>(
     into_nodes(alloc, done)
 }
 
-/// Gives the nodes of one job turns until each is done, by `workers`, 1 to 64 of them, in as many groups of neighbours.
+/// Gives the nodes of one job turns until each is done, by `workers`, 1 to 64 of them, in 1 to 4096 groups of neighbours.
 /// Within a group a message stays on one processor, and may pass many nodes in one turn. A node that hasn't begun
 /// enters the gate, and its epoch is analysed; the cursor of one analysis serves the next of its group. It gives up with
 /// NoMemory alone.
@@ -72,14 +75,16 @@ fn turn_all<'a, G: Gate, R: Threads + Wait + Sync>(
     rt: &R,
     alloc: Global,
     nodes: Vec<Node<'a, G>>,
+    groups: u32,
     workers: u32,
 ) -> Result<Vec<Node<'a, G>>, NoMemory>
     requires one_job { AreOfOneJob nodes.items }
+    requires groups { (1 ≤ groups) × (groups ≤ 4096) }
     requires workers { (1 ≤ workers) × (workers ≤ 64) }
     ensures ended { IfOk result (λ done. All IsDone done.items) }
     ensures led { IfOk result (λ done. AllZip IsLedFrom done.items nodes.entry.items) }
 {
-    let groups = split(alloc, nodes, workers)?;
+    let groups = split(alloc, nodes, groups)?;
     let board = Board::new(alloc, groups)?;
     let done = board.work(rt, alloc, workers)?;
     join(alloc, done)
@@ -89,8 +94,8 @@ fn turn_all<'a, G: Gate, R: Threads + Wait + Sync>(
 /// 64 of them. It answers them in order of number, each led from the one handed in with that number. It gives up with
 /// NoMemory alone.
 ///
-/// There are as many groups of neighbours as workers, or as nodes where these are fewer. At last all workers make the rows,
-/// each those of the epochs that it takes.
+/// There are as many groups of neighbours as workers, or as nodes where these are fewer; one worker has more. At last all
+/// workers make the rows, each those of the epochs that it takes.
 pub fn work_in_groups<'a, G: Gate, R: Threads + Wait + Sync>(
     rt: &R,
     alloc: Global,
@@ -106,10 +111,11 @@ pub fn work_in_groups<'a, G: Gate, R: Threads + Wait + Sync>(
     ensures led { IfOk result (λ done. AllZip IsLedFrom done.items nodes.entry.items) }
 {
     // More workers than nodes would find nothing to do.
-    let workers = workers.min(nodes.len() as u32);
+    let count = nodes.len() as u32;
+    let workers = workers.min(count);
     if workers == 1 {
-        return turn_all(rt, alloc, nodes, 1);
+        return turn_all(rt, alloc, nodes, count.div_ceil(MOST_NODES), 1);
     }
-    let done = turn_all(rt, alloc, nodes, workers)?;
+    let done = turn_all(rt, alloc, nodes, workers, workers)?;
     work_apart(rt, alloc, done, workers)
 }
