@@ -1,0 +1,5 @@
+mod Sums
+mod Parts
+mod Steps
+mod Among
+mod Examples
