@@ -1,10 +1,7 @@
 -- The sum of a packet's bytes modulo 256, a byte at a time.
-use Rattle.std.proofs.Common.{◌≡◌, ℕ, ◌+◌, ◌%◌, ◌<◌, List, [], ◌∷◌, ◌++◌, length, get_or, take, arith}
-use Rattle.std.proofs.lemmas.List.Sums.{sum_by_push, sum_by_more}
+use Rattle.std.proofs.Common.{◌≡◌, ℕ, ◌+◌, ◌%◌, ◌<◌, List, length, get_or, take, arith}
+use Rattle.std.proofs.lemmas.List.Sums.{sum_by_more}
 use Rattle.remote_frames.specs.Frames.{checksum}
-
-pub checksum_push : (packet : List ℕ) (byte : ℕ) → (checksum packet + byte) % 256 ≡ checksum (packet ++ byte ∷ [])
-checksum_push packet byte = let e = sum_by_push (λ (b : ℕ). b) packet byte in omega (arith, e)
 
 pub checksum_more : (packet : List ℕ) (i : ℕ) → i < length packet
     → (checksum (take i packet) + get_or packet i 0) % 256 ≡ checksum (take (i + 1) packet)

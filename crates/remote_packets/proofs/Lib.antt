@@ -1,0 +1,5 @@
+mod Digits
+mod Times
+mod PointLemmas
+mod HexTexts
+mod Examples
