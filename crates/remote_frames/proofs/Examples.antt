@@ -23,6 +23,7 @@ unfolding heard
 anew = (refl, refl, refl, refl)
 
 -- a wrong checksum, and digits that are none, whatever they are
-bad : (heard (codes "$?#3e") ≡ Bad ∷ []) × (heard (codes "$?#-g-") ≡ Bad ∷ Again ∷ []) × (heard (codes "$?##f$?#3f") ≡ Bad ∷ Packet (codes "?") ∷ [])
+bad : (heard (codes "$?#3e") ≡ Bad ∷ []) × (heard (codes "$?#-g-") ≡ Bad ∷ Again ∷ [])
+    × (heard (codes "$?##f$?#3f") ≡ Bad ∷ Packet (codes "?") ∷ [])
 unfolding heard
 bad = (refl, refl, refl)

@@ -16,8 +16,15 @@ value (Err fault) is = cc is
 pub even_hex : (digits : List ℕ) → length digits % 2 ≡ 0 → list_all is_hex_digit digits ≡ is_ok (decode_of digits)
 even_hex digits even = by (cases_Bool (list_all is_hex_digit digits)) where
   each : is_ok (decode_of digits) ≡ true → list_all is_hex_digit digits ≡ true
-  each is = let read = value (decode_of digits) is in list_all-from_AllPass is_hex_digit digits (decode_of-ok digits read.0 read.1).1
+  each is =
+      let read = value (decode_of digits) is in
+      list_all-from_AllPass is_hex_digit digits (decode_of-ok digits read.0 read.1).1
 
-  by : (list_all is_hex_digit digits ≡ true) ⊎ (list_all is_hex_digit digits ≡ false) → list_all is_hex_digit digits ≡ is_ok (decode_of digits)
-  by (inl all) = let read = decode_of-digits digits even (AllPass-from_list_all is_hex_digit digits all) in rw (all, read.1) refl
-  by (inr other) = rw (other, false_from_ne_true (is_ok (decode_of digits)) (λ is. both_ways (list_all is_hex_digit digits) other (each is))) refl
+  by : (list_all is_hex_digit digits ≡ true) ⊎ (list_all is_hex_digit digits ≡ false)
+      → list_all is_hex_digit digits ≡ is_ok (decode_of digits)
+  by (inl all) =
+      let read = decode_of-digits digits even (AllPass-from_list_all is_hex_digit digits all) in
+      rw (all, read.1) refl
+  by (inr other) =
+      let lacks : is_ok (decode_of digits) ≡ true → ⊥ = λ is. both_ways (list_all is_hex_digit digits) other (each is) in
+      rw (other, false_from_ne_true (is_ok (decode_of digits)) lacks) refl

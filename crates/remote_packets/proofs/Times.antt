@@ -13,12 +13,18 @@ value-le : (n : ℕ) (digits : List ℕ) → n ≤ digits_value_after 10 n digit
 value-le n [] = omega arith
 value-le n (digit ∷ digits) = omega (arith, value-le (n * 10 + digit_value digit) digits)
 
+-- the number with more digits, which counts as the most at most
+abbrev within : ℕ → List ℕ → ℕ → ℕ
+within most digits n = min (digits_value_after 10 n digits) most
+
 -- a number that counts as the most does so with more digits too
-capped : (most n : ℕ) (digits : List ℕ) → min (digits_value_after 10 (min n most) digits) most ≡ min (digits_value_after 10 n digits) most
+capped : (most n : ℕ) (digits : List ℕ) → within most digits (min n most) ≡ within most digits n
 capped most n digits = by (cases_lt most n) where
-  by : (most < n) ⊎ (n ≤ most) → min (digits_value_after 10 (min n most) digits) most ≡ min (digits_value_after 10 n digits) most
-  by (inl above) = let e : min n most ≡ most = omega arith in rw e (omega (arith, value-le most digits, value-le n digits))
-  by (inr within) = let e : min n most ≡ n = omega arith in rw e refl
+  by : (most < n) ⊎ (n ≤ most) → within most digits (min n most) ≡ within most digits n
+  by (inl above) =
+      let e : min n most ≡ most = omega arith in
+      rw e (omega (arith, value-le most digits, value-le n digits))
+  by (inr fits) = let e : min n most ≡ n = omega arith in rw e refl
 
 digit : (low : ℕ) → is_ascii_digit low ≡ true → digit_value low ≡ low - 48
 digit low is = grind (arith, nat_tests)
@@ -32,14 +38,16 @@ next : (n low : ℕ) (digits : Option (List ℕ)) → is_ascii_digit low ≡ tru
 next n low None is = refl
 next n low (Some digits) is =
     let value = digit low is in
-    let same : with_digit n low ≡ min (n * 10 + digit_value low) (2 ^ 64 - 1) = omega (arith, value) in
-    ap Some (sym (ap (λ (v : ℕ). min (digits_value_after 10 v digits) (2 ^ 64 - 1)) same ∙ capped (2 ^ 64 - 1) (n * 10 + digit_value low) digits))
+    let most : ℕ = 2 ^ 64 - 1 in
+    let same : with_digit n low ≡ min (n * 10 + digit_value low) most = omega (arith, value) in
+    ap Some (sym (ap (within most digits) same ∙ capped most (n * 10 + digit_value low) digits))
 
 -- what is behind the first two bytes
 abbrev pub behind : List ℕ → List ℕ
 behind rest = take (length rest - 2) (drop 2 rest)
 
-pub digit_read : (rest : List ℕ) (n : ℕ) → 2 ≤ length rest → get_or rest 0 0 ≡ 0x33 → is_ascii_digit (get_or rest 1 0) ≡ true
+pub digit_read : (rest : List ℕ) (n : ℕ) → 2 ≤ length rest → get_or rest 0 0 ≡ 0x33
+    → is_ascii_digit (get_or rest 1 0) ≡ true
     → time_after (with_digit n (get_or rest 1 0)) (decimal_digits (behind rest)) ≡ time_after n (decimal_digits rest)
 digit_read [] n long three is = absurd (omega arith)
 digit_read (high ∷ []) n long three is = absurd (omega arith)

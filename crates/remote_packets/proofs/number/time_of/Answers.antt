@@ -8,8 +8,10 @@ pub loop-rest-preserved : goal.loop-rest-preserved
 loop-rest-preserved c =
     let rest = c.loop-rest.rest.now in
     let low = get_or rest 1 0 in
-    let value : c.saturating_add-value.result ≡ with_digit c.loop-rest.value low = rw (c.saturating_mul.ensures, c.from.ensures) at c.saturating_add-value.ensures in
-    let read = digit_read rest c.loop-rest.value c.in-len2-up.len_at_least c.if-high-ne51.false (sym c.is_ascii_digit.ensures.value ∙ c.if-not-is_ascii_digit.false) in
+    let value : c.saturating_add-value.result ≡ with_digit c.loop-rest.value low =
+    rw (c.saturating_mul.ensures, c.from.ensures) at c.saturating_add-value.ensures in
+    let is = sym c.is_ascii_digit.ensures.value ∙ c.if-not-is_ascii_digit.false in
+    let read = digit_read rest c.loop-rest.value c.in-len2-up.len_at_least c.if-high-ne51.false is in
     record {
       same = ap (λ (v : ℕ). time_after v (decimal_digits (behind rest))) value ∙ read ∙ c.loop-rest.invariant.same;
       fits = omega arith;

@@ -24,7 +24,8 @@ pub returns-in_ok-add-in-Inside-clause-heard : goal.returns-in_ok-add-in-Inside-
 returns-in_ok-add-in-Inside-clause-heard c after =
     let packet = c.self.inside.packet.items in
     let stands = sym c.self.view_is ∙ ap (λ (p : Place). record { place = p; packet = packet }) c.in-Inside.is in
-    inside_read c.args.self.now packet after c.args.byte stands c.self.invariant.plain c.if-byte-eq36.false c.if-byte-eq35.false
+    inside_read c.args.self.now packet after c.args.byte stands c.self.invariant.plain
+    c.if-byte-eq36.false c.if-byte-eq35.false
     ∙ ap (λ (f : FramerAt). heard (begun f ++ after)) (sym c.in_ok-add-in-Inside.ensures.ok)
 
 pub returns-in-SecondDigit-clause-heard : goal.returns-in-SecondDigit-clause-heard
