@@ -57,6 +57,10 @@ mod query_lang_tests;
 #[cfg(test)]
 mod range_report_tests;
 #[cfg(test)]
+mod remote_frames_tests;
+#[cfg(test)]
+mod remote_packets_tests;
+#[cfg(test)]
 mod replay_log_tests;
 #[cfg(test)]
 mod run_output_tests;
