@@ -1,5 +1,4 @@
 mod Digits
 mod Times
-mod PointLemmas
 mod HexTexts
 mod Examples

@@ -9,6 +9,7 @@ use Rattle.remote_packets.specs.declared.packet.Packet.{Packet}
 use Rattle.remote_packets.specs.declared.packet.Packet.TheVariants.{LastStop, Registers, Register, Memory, Change, Set, Clear, Go, Moves, Supported, Description, StartNoAck, Extended, Thread, Attached, Run, End, Command, Detach, Kill, Other}
 use Rattle.remote_packets.specs.declared.packet.Point.{Point}
 use Rattle.remote_packets.specs.declared.packet.Point.TheVariants.{Break, Watch}
+use Rattle.remote_packets.specs.declared.packet.WatchKind.{WatchKind}
 use Rattle.remote_packets.specs.declared.packet.WatchKind.TheVariants.{Write, Read, Access}
 use Rattle.remote_packets.specs.declared.packet.Move.{Move}
 use Rattle.remote_packets.specs.declared.packet.Move.TheVariants.{Step, Continue, RangeStep, ReverseStep, ReverseContinue}
@@ -22,23 +23,25 @@ is_colon byte = byte == 0x3a
 
 -- ---- operands
 
--- a point by its kind, of an address and a length. A breakpoint's length isn't looked at
-abbrev pub point_of_kind : List ℕ → ℕ × ℕ → Option Point
-point_of_kind kind at =
-    if bytes_eq kind (codes "0") || bytes_eq kind (codes "1") then Some (Break at.0) else
-    if bytes_eq kind (codes "2") then Some (Watch Write at.0 at.1) else
-    if bytes_eq kind (codes "3") then Some (Watch Read at.0 at.1) else
-    if bytes_eq kind (codes "4") then Some (Watch Access at.0 at.1) else None
+abbrev pub break_at : ℕ × ℕ → Point
+break_at at = Break at.0
 
-abbrev pub point_at : List ℕ → Option (ℕ × ℕ) → Option Point
-point_at kind (Some at) = point_of_kind kind at
-point_at kind None = None
+abbrev pub watch_at : WatchKind → ℕ × ℕ → Point
+watch_at kind at = Watch kind at.0 at.1
 
--- behind `Z` or `z`: a kind, an address and a length, with commas between them. What follows a `;` isn't looked at
+-- a point by its kind: of an address and a length. A breakpoint's length isn't looked at, and nor is what follows a `;`
+-- behind it
+abbrev pub point_of_kind : List ℕ → List ℕ → Option Point
+point_of_kind kind operands =
+    if bytes_eq kind (codes "0") || bytes_eq kind (codes "1")
+    then option_map break_at (pair (before_first is_semicolon operands)) else
+    if bytes_eq kind (codes "2") then option_map (watch_at Write) (pair operands) else
+    if bytes_eq kind (codes "3") then option_map (watch_at Read) (pair operands) else
+    if bytes_eq kind (codes "4") then option_map (watch_at Access) (pair operands) else None
+
+-- behind `Z` or `z`: a kind, an address and a length, with commas between them
 abbrev pub point : List ℕ → Option Point
-point text =
-    let words = before_first is_semicolon text in
-    point_at (before_first is_comma words) (pair (after_first is_comma words))
+point text = point_of_kind (before_first is_comma text) (after_first is_comma text)
 
 abbrev pub range_step : ℕ × ℕ → Move
 range_step range = RangeStep range.0 range.1

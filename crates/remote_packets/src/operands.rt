@@ -1,31 +1,30 @@
 //! What stands behind a packet's name.
 
-ghost use Rattle.std.specs.Prelude.{◌≡◌};
-ghost use Rattle.std.specs.List.{list_all};
+ghost use Rattle.std.specs.Prelude.{◌≡◌, option_map};
+ghost use Rattle.std.specs.List.{list_all, before_first};
 ghost use Rattle.hex.specs.Hex.{is_hex_digit};
-ghost use Rattle.remote_packets.specs.Numbers.{is_hex_text};
-ghost use Rattle.remote_packets.specs.Packets.{point_of_kind, point, move_named, first_move, run_of as run_by_words};
+ghost use Rattle.remote_packets.specs.Numbers.{pair, is_hex_text};
+ghost use Rattle.remote_packets.specs.Packets.{is_semicolon, break_at, watch_at, point, move_named, first_move};
+ghost use Rattle.remote_packets.specs.Packets.{run_of as run_by_words};
 
 use crate::number::{pair_of, time_of};
 use crate::packet::{Move, Packet, Point, WatchKind};
 use crate::text::{begins_with, cut_at};
 
-/// A point by its kind, of an address and a length.
-fn point_by(kind: &[u8], place: u32, length: u32) -> Option<Point>
-    ensures { result ≡ point_of_kind kind.now (place, length) }
+/// A breakpoint at an address. The length behind it isn't looked at, and nor is what follows a `;`.
+fn break_of(operands: &[u8]) -> Option<Point>
+    ensures { result ≡ option_map break_at (pair (before_first is_semicolon operands.now)) }
 {
-    if kind == b"0".as_slice() || kind == b"1".as_slice() {
-        return Some(Point::Break { place });
-    }
-    let kind = if kind == b"2".as_slice() {
-        WatchKind::Write
-    } else if kind == b"3".as_slice() {
-        WatchKind::Read
-    } else if kind == b"4".as_slice() {
-        WatchKind::Access
-    } else {
-        return None;
-    };
+    let (numbers, _) = cut_at(operands, b';');
+    let (place, _) = pair_of(numbers)?;
+    Some(Point::Break { place })
+}
+
+/// A watchpoint of so many bytes from an address on.
+fn watch_of(kind: WatchKind, operands: &[u8]) -> Option<Point>
+    ensures { result ≡ option_map (watch_at kind) (pair operands.now) }
+{
+    let (place, length) = pair_of(operands)?;
     Some(Point::Watch {
         kind,
         place,
@@ -33,14 +32,22 @@ fn point_by(kind: &[u8], place: u32, length: u32) -> Option<Point>
     })
 }
 
-/// The point behind `Z` or `z`: a kind, an address and a length, with commas between them, and anything behind a `;`.
+/// The point behind `Z` or `z`: a kind, an address and a length, with commas between them.
 pub(crate) fn point_of(text: &[u8]) -> Option<Point>
     ensures { result ≡ point text.now }
 {
-    let (words, _) = cut_at(text, b';');
-    let (kind, numbers) = cut_at(words, b',');
-    let (place, length) = pair_of(numbers)?;
-    point_by(kind, place, length)
+    let (kind, operands) = cut_at(text, b',');
+    if kind == b"0".as_slice() || kind == b"1".as_slice() {
+        break_of(operands)
+    } else if kind == b"2".as_slice() {
+        watch_of(WatchKind::Write, operands)
+    } else if kind == b"3".as_slice() {
+        watch_of(WatchKind::Read, operands)
+    } else if kind == b"4".as_slice() {
+        watch_of(WatchKind::Access, operands)
+    } else {
+        None
+    }
 }
 
 /// The move of this name.
