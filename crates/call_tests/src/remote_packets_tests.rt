@@ -64,7 +64,7 @@ const NUMBERED: &[(&[u8], Packet)] = &[
         },
     ),
     (b"Z0,10014,4", Packet::Set(Point::Break { place: 65556 })),
-    (b"Z1,1,2;X1,0", Packet::Set(Point::Break { place: 1 })),
+    (b"Z1,1,2;X1,0;,", Packet::Set(Point::Break { place: 1 })),
     (b"z0,10014,2;", Packet::Clear(Point::Break { place: 65556 })),
     (b"z1,10014,0", Packet::Clear(Point::Break { place: 65556 })),
     (
@@ -84,7 +84,7 @@ const NUMBERED: &[(&[u8], Packet)] = &[
         }),
     ),
     (
-        b"Z4,0,0;;,",
+        b"Z4,0,0",
         Packet::Set(Point::Watch {
             kind: WatchKind::Access,
             place: 0,
@@ -171,6 +171,10 @@ const OTHERS: &[&[u8]] = &[
     b"Z2,10102,",
     b"Z2,10102,1,2",
     b"Z2;,1,1",
+    b"Z2,10102,1;X1,0",
+    b"z4,0,0;",
+    b"Z0;X,1,1",
+    b"Z0,1;2",
     b"Z5,0,0",
     b"Z02,0,0",
     b"Z,0,0",
