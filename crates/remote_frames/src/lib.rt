@@ -1,5 +1,5 @@
-//! Frames of the GDB Remote Serial Protocol (GDB manual, appendix E "Remote Protocol", "Overview"): how packets stand
-//! among bytes, and how they are read from them.
+//! Frames of the GDB Remote Serial Protocol: how packets stand among bytes, and how they are read from them (GDB manual,
+//! appendix E "Remote Protocol", "Overview").
 //!
 //! A frame is `$`, a packet, `#`, and two hexadecimal digits in either case, which are the sum of the packet's bytes
 //! modulo 256. A `$` anywhere behind the first begins anew, and what it breaks off says nothing. A packet has at most

@@ -1,5 +1,5 @@
-//! Packets of the GDB Remote Serial Protocol (GDB manual, appendix E "Remote Protocol"), as far as a debugger of a
-//! recorded run asks: what each asks, by its bytes.
+//! Packets of the GDB Remote Serial Protocol: what each asks, by its bytes, as far as a debugger of a recorded run asks
+//! (GDB manual, appendix E "Remote Protocol").
 //!
 //! Numbers in packets are one to eight hexadecimal digits, in either case. A packet that begins as one that is known,
 //! and has not its form, is every other packet, as is one that isn't known.
