@@ -56,7 +56,12 @@ use Rattle.page_data.specs.PageLaws.{AlikeHaveSameData}
 use Rattle.jet_commands.specs.declared.tellings.Format.{Format}
 use Rattle.jet_commands.specs.declared.tellings.Format.TheVariants.{Listed, Page}
 use Rattle.jet_commands.specs.declared.tellings.Making.{Making}
-use Rattle.jet_commands.proofs.Fitting.{fitting_start-ok}
+use Rattle.no_memory.specs.declared.Fault.{Fault}
+use Rattle.no_memory.specs.Faults.{IsCausedBy}
+use Rattle.replay_model.specs.declared.Misfit.{Misfit}
+use Rattle.replayer.specs.Checks.{IsMisfit}
+use Rattle.jet_refusal.specs.Faults.{misfit_refusal, IsRefusalOf}
+use Rattle.jet_commands.proofs.Fitting.{fitting_start-ok, misfit-stops}
 
 -- the first calls gave a value, and what the work on it says is that of all
 pub outcome_by-answer : {A B : Type 0} (R : Contents → Result A Refusal → Type 0) (Q : Result B Refusal → Type 0) (T : Contents → Result B Refusal → Type 0) (x : A) (f g : StoreShown)
@@ -120,6 +125,18 @@ module _ {A : Type 0} (alike : A → A → Type 0) (read : Contents → Result A
 
 fitting : (run : Run) (job : Job) → IsChecked run.program.bytes run.program.image run.log job → fitting_start run.program run.log ≡ Ok job.start
 fitting run job checked = fitting_start-ok run.program run.log job.start checked.digest checked.start checked.agrees
+
+-- the log doesn't fit
+pub misfit-cut : (told : Option ℕ) (run : Run) (fault : Fault Misfit) (r : Refusal) → IsCausedBy (IsMisfit run.program.bytes run.program.image run.log) fault
+    → IsRefusalOf (λ misfit given. given ≡ misfit_refusal misfit) fault r → IsWork (fits_and_is_cut told run) (Err r)
+misfit-cut told run fault r is gives = work-stops (fitting_start run.program run.log) (λ start. told_check told run.log) r (misfit-stops run.program run.log fault r is gives)
+
+-- the log fits, but there are too many epochs
+pub cutting-stops : (told : Option ℕ) (run : Run) (job : Job) (r : Refusal) → IsChecked run.program.bytes run.program.image run.log job → IsWork (told_check told run.log) (Err r)
+    → IsWork (fits_and_is_cut told run) (Err r)
+cutting-stops told run job r checked =
+    owed-map (told_check told run.log ≡ Err r) (fits_and_is_cut told run ≡ Err r)
+    (λ e. and_then-ok (fitting_start run.program run.log) (λ start. told_check told run.log) job.start (fitting run job checked) ∙ e) r
 
 -- a text that is made of the run
 analysed-gives : (told : Option ℕ) (run : Run) (given : State → Log → List ℕ) (job : Job) (text : List ℕ) → IsChecked run.program.bytes run.program.image run.log job → told_check told run.log ≡ Ok tt
