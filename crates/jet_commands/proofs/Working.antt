@@ -188,14 +188,6 @@ pub given-stops : (given : Query → State → Log → List ℕ) (told : Option 
     → IsWorkOf (IsGivenAlike given told run kept) (Err r)
 given-stops given told run kept r = owed-map (fits_and_is_cut told run ≡ Err r) (IsGivenAlike given told run kept (Err r)) (λ e q alike. analysed-stops told run (given q) r e) r
 
--- the same of a run that isn't cut
-fits-stops : (run : Run) (r : Refusal) → IsWork (fitting_start run.program run.log) (Err r) → IsWork (fits_and_is_cut None run) (Err r)
-fits-stops run r = work-stops (fitting_start run.program run.log) (λ start. told_check None run.log) r
-
-pub uncut-stops : (given : Query → State → Log → List ℕ) (run : Run) (kept : Query) (r : Refusal) → IsWork (fitting_start run.program run.log) (Err r)
-    → IsWorkOf (IsGivenAlike given None run kept) (Err r)
-uncut-stops given run kept r w = given-stops given None run kept r (fits-stops run r w)
-
 -- what one query gives is what every query gives that asks alike
 pub given-gives : (given : Query → State → Log → List ℕ) (told : Option ℕ) (run : Run) (kept : Query) (job : Job) (text : List ℕ) → IsSame given → IsChecked run.program.bytes run.program.image run.log job
     → told_check told run.log ≡ Ok tt → text ≡ given kept job.start job.log → IsGivenAlike given told run kept (Ok text)
