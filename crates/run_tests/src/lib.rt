@@ -1,6 +1,6 @@
 //! Tests of runs that are cut into epochs: where these begin, each by itself, what its core sends, and all of them
 //! together, with what crosses the cuts between them. Paths over runs, decisions of runs, the calls in progress, core
-//! files, and pages.
+//! files, pages, and moves of a debugger.
 #![tactic(auto)]
 
 #[cfg(test)]
@@ -23,3 +23,5 @@ mod paths;
 mod runs;
 #[cfg(test)]
 mod stacks;
+#[cfg(test)]
+mod travels;

@@ -1,0 +1,5 @@
+mod Meeting
+mod Finding
+mod Stopping
+mod Passing
+mod Worked

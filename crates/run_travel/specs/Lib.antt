@@ -1,0 +1,5 @@
+pub mod Accesses
+pub mod Stops
+pub mod Moves
+pub mod MoveLaws
+pub mod Searches
