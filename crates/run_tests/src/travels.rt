@@ -16,19 +16,11 @@ type Ends = (u64, &'static str, u32);
 enum Order {
     Break(u32),
     NoBreak(u32),
-    Watch(Watch),
-    NoWatch(Watch),
+    Watch(WatchKind, u32, u32),
+    NoWatch(WatchKind, u32, u32),
     On(Aim, Ends),
     StepBack(Ends),
     Back(Ends),
-}
-
-const fn watch(kind: WatchKind, place: u32, length: u32) -> Watch {
-    Watch {
-        kind,
-        place,
-        length,
-    }
 }
 
 /// Why a move stopped, in a word, with the address of the watchpoint or the kind of the trap.
@@ -55,8 +47,22 @@ fn obey(rt: &impl Runtime, travel: &mut Travel<'_>, points: &mut Points, order: 
     match order {
         Order::Break(pc) => points.set_break(pc).expect(rt, "memory"),
         Order::NoBreak(pc) => points.clear_break(pc),
-        Order::Watch(watch) => points.set_watch(watch).expect(rt, "memory"),
-        Order::NoWatch(watch) => points.clear_watch(watch),
+        Order::Watch(kind, place, length) => {
+            let watch = Watch {
+                kind,
+                place,
+                length,
+            };
+            points.set_watch(watch).expect(rt, "memory");
+        }
+        Order::NoWatch(kind, place, length) => {
+            let watch = Watch {
+                kind,
+                place,
+                length,
+            };
+            points.clear_watch(watch);
+        }
         Order::On(aim, ends) => {
             let cause = travel.go_on(points, aim);
             assert_ends(rt, travel, cause, ends);
@@ -84,20 +90,23 @@ fn assert_moves(rt: &impl Runtime, job: &Job, length: u64, orders: &[Order]) {
     }
 }
 
-/// A byte of what is read.
-const READ: Watch = watch(WatchKind::Writes, 0x10102, 1);
-
 /// Past a read, back over it, and on by breakpoints, out of a range and to the end.
 const DIALOGUE: [Order; 14] = [
-    Order::Watch(READ),
-    Order::Watch(READ),
+    Order::Watch(WatchKind::Writes, 0x10102, 1),
+    Order::Watch(WatchKind::Writes, 0x10102, 1),
     Order::On(Aim::Points, (6, "watched", 0x10102)),
     Order::StepBack((5, "watched", 0x10102)),
     Order::Back((0, "beginning", 0)),
     Order::StepBack((0, "beginning", 0)),
-    Order::NoWatch(READ),
+    Order::NoWatch(WatchKind::Writes, 0x10102, 1),
     Order::Break(0x10014),
-    Order::On(Aim::Leave { from: 0x10000, past: 0x10014 }, (5, "arrived", 0)),
+    Order::On(
+        Aim::Leave {
+            from: 0x10000,
+            past: 0x10014,
+        },
+        (5, "arrived", 0),
+    ),
     Order::On(Aim::Points, (12, "end", 0)),
     Order::On(Aim::Step, (12, "end", 0)),
     Order::Back((5, "arrived", 0)),
@@ -107,9 +116,9 @@ const DIALOGUE: [Order; 14] = [
 
 /// What is written is read, the first point that is set is told, and no point is set by clearing another.
 const WRITTEN: [Order; 9] = [
-    Order::Watch(watch(WatchKind::Reads, 0x10103, 1)),
-    Order::Watch(watch(WatchKind::Both, 0x10100, 4)),
-    Order::NoWatch(watch(WatchKind::Writes, 0x10103, 1)),
+    Order::Watch(WatchKind::Reads, 0x10103, 1),
+    Order::Watch(WatchKind::Both, 0x10100, 4),
+    Order::NoWatch(WatchKind::Writes, 0x10103, 1),
     Order::On(Aim::Points, (6, "watched", 0x10100)),
     Order::On(Aim::Points, (9, "watched", 0x10103)),
     Order::On(Aim::Points, (12, "end", 0)),
@@ -129,9 +138,9 @@ fn moves_over_a_copy(rt: HostRuntime) {
 
 /// A store of two bytes is met at its last, by what watches writes, and not behind it, nor by what watches reads.
 const STORED: [Order; 5] = [
-    Order::Watch(watch(WatchKind::Writes, 0x10102, 2)),
-    Order::Watch(watch(WatchKind::Reads, 0x10101, 1)),
-    Order::Watch(watch(WatchKind::Writes, 0x10101, 4)),
+    Order::Watch(WatchKind::Writes, 0x10102, 2),
+    Order::Watch(WatchKind::Reads, 0x10101, 1),
+    Order::Watch(WatchKind::Writes, 0x10101, 4),
     Order::On(Aim::Points, (10, "watched", 0x10101)),
     Order::On(Aim::Points, (14, "watched", 0x10101)),
 ];
@@ -143,7 +152,7 @@ fn a_store_is_met_by_its_bytes(rt: HostRuntime) {
 
 /// The trap is told where a move comes to it, and not where it stays there.
 const TO_A_TRAP: [Order; 7] = [
-    Order::Watch(watch(WatchKind::Reads, 0x10101, 1)),
+    Order::Watch(WatchKind::Reads, 0x10101, 1),
     Order::Break(0x10030),
     Order::On(Aim::Points, (13, "watched", 0x10101)),
     Order::On(Aim::Points, (17, "trapped", 5)),
@@ -155,7 +164,10 @@ const TO_A_TRAP: [Order; 7] = [
 #[test]
 fn a_trap_is_told_as_it_comes(rt: HostRuntime) {
     assert_moves(&rt, &job_of(&rt, &COMPARE_AND_LOOK_UP), 3, &TO_A_TRAP);
-    let still = [Order::On(Aim::Step, (0, "end", 0)), Order::Back((0, "beginning", 0))];
+    let still = [
+        Order::On(Aim::Step, (0, "end", 0)),
+        Order::Back((0, "beginning", 0)),
+    ];
     assert_moves(&rt, &job_of(&rt, &TRAP), 3, &still);
 }
 
@@ -197,7 +209,13 @@ fn assert_goes(rt: &impl Runtime, job: &Job, times: (u64, u64), x5: u32) {
 #[test]
 fn a_time_is_reached_from_before_and_from_behind(rt: HostRuntime) {
     let job = job_of(&rt, &COUNT_DOWN);
-    for times in [(0, 1001), (1000, 1001), (900, 1001), (4097, 1001), (1001, 1001)] {
+    for times in [
+        (0, 1001),
+        (1000, 1001),
+        (900, 1001),
+        (4097, 1001),
+        (1001, 1001),
+    ] {
         assert_goes(&rt, &job, times, 1547);
     }
     assert_goes(&rt, &job, (2000, 0), 0);

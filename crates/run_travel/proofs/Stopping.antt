@@ -6,6 +6,7 @@ use Rattle.std.proofs.lemmas.Bool.{true≢false}
 use Rattle.std.proofs.lemmas.Option.{same_Some}
 use Rattle.log_model.specs.Logs.{steps}
 use Rattle.replayer.specs.Jobs.{Job}
+use Rattle.replayer.specs.Positions.{CursorAt}
 use Rattle.checkpoints.specs.Points.{beginnings}
 use Rattle.run_travel.specs.declared.aim.Aim.{Aim}
 use Rattle.run_travel.specs.declared.search.Stop.{Stop}
@@ -22,26 +23,35 @@ stops_here job points aim t h e =
 
 -- ---- one step more
 
--- a run that goes on stopped behind step t
-pub stopped : (job : Job) (points : PointsAt) (aim : Aim) (t : ℕ) (stop : Option Stop) → t < steps job.log → stop ≡ then_some (stops_after job points aim t) (stop_at job points t)
-    → is_some stop ≡ true → (stop_on job points aim t ≡ Some t) × (stop ≡ Some (stop_at job points t))
-stopped job points aim t stop h e is = by (stops_after job points aim t) refl e where
-  by : (b : Bool) → stops_after job points aim t ≡ b → stop ≡ then_some b (stop_at job points t) → (stop_on job points aim t ≡ Some t) × (stop ≡ Some (stop_at job points t))
-  by true stops e = (stops_here job points aim t h stops, e)
-  by false stops e = absurd (true≢false (sym is ∙ ap (λ (o : Option Stop). is_some o) e))
+-- where a cursor stands at time t, the run makes a step, and stops behind it, or not
+pub record IsMadeOn (job : Job) (points : PointsAt) (aim : Aim) (t : ℕ) (before : CursorAt) (stop : Option Stop) : Type 0 where
+  pub here : before ≡ record { job = job; time = t }
+  pub below : t < steps job.log
+  pub is : stop ≡ then_some (stops_after before.job points aim before.time) (stop_at before.job points before.time)
 
--- it didn't
-pub goes_on : (job : Job) (points : PointsAt) (aim : Aim) (t : ℕ) (stop : Option Stop) → t < steps job.log → stop ≡ then_some (stops_after job points aim t) (stop_at job points t)
+stop_here : (job : Job) (points : PointsAt) (aim : Aim) (t : ℕ) (before : CursorAt) (stop : Option Stop) → IsMadeOn job points aim t before stop
+    → stop ≡ then_some (stops_after job points aim t) (stop_at job points t)
+stop_here job points aim t before stop made =
+    made.is ∙ ap (λ (k : CursorAt). then_some (stops_after k.job points aim k.time) (stop_at k.job points k.time)) made.here
+
+pub stopped : (job : Job) (points : PointsAt) (aim : Aim) (t : ℕ) (before : CursorAt) (stop : Option Stop) → IsMadeOn job points aim t before stop
+    → is_some stop ≡ true → (stop_on job points aim t ≡ Some t) × (stop ≡ Some (stop_at job points t))
+stopped job points aim t before stop made some = by (stops_after job points aim t) refl (stop_here job points aim t before stop made) where
+  by : (b : Bool) → stops_after job points aim t ≡ b → stop ≡ then_some b (stop_at job points t) → (stop_on job points aim t ≡ Some t) × (stop ≡ Some (stop_at job points t))
+  by true stops e = (stops_here job points aim t made.below stops, e)
+  by false stops e = absurd (true≢false (sym some ∙ ap (λ (o : Option Stop). is_some o) e))
+
+pub goes_on : (job : Job) (points : PointsAt) (aim : Aim) (t : ℕ) (before : CursorAt) (stop : Option Stop) → IsMadeOn job points aim t before stop
     → is_some stop ≡ false → stop_on job points aim t ≡ stop_on job points aim (t + 1)
-goes_on job points aim t stop h e is = by (stops_after job points aim t) refl e where
+goes_on job points aim t before stop made none = by (stops_after job points aim t) refl (stop_here job points aim t before stop made) where
   by : (b : Bool) → stops_after job points aim t ≡ b → stop ≡ then_some b (stop_at job points t) → stop_on job points aim t ≡ stop_on job points aim (t + 1)
-  by true stops e = absurd (true≢false (sym (ap (λ (o : Option Stop). is_some o) e) ∙ is))
+  by true stops e = absurd (true≢false (sym (ap (λ (o : Option Stop). is_some o) e) ∙ none))
   by false stops e =
-      from_first (stops_after job points aim) t (steps job.log) h
+      from_first (stops_after job points aim) t (steps job.log) made.below
       ∙ ap (λ (b : Bool). if b then Some t else stop_on job points aim (t + 1)) stops
 
--- the last stop before time t + 1 is step t, or one before
-pub last_more : (job : Job) (points : PointsAt) (t : ℕ)
+-- the last stop before time t + 1 is step t, or else one before
+last_more : (job : Job) (points : PointsAt) (t : ℕ)
     → found_back job points (t + 1) ≡ option_or (then_some (stops_before job points t) (stop_at job points t)) (found_back job points t)
 last_more job points t =
     ap (found_back job points) (add-one t)
@@ -52,9 +62,20 @@ last_more job points t =
     by true = refl
     by false = refl
 
-pub or_earlier : (a b d : Option Stop) → option_or a (option_or b d) ≡ option_or (option_or a b) d
-or_earlier None b d = refl
-or_earlier (Some stop) b d = refl
+-- where a cursor stands at time t, the run makes a step, and it is kept where it is a stop, in place of the last one so far
+pub kept : (job : Job) (points : PointsAt) (t : ℕ) (before : CursorAt) (stop found first : Option Stop) → before ≡ record { job = job; time = t }
+    → stop ≡ then_some (stops_before before.job points before.time) (stop_at before.job points before.time)
+    → found_back job points t ≡ option_or found first → found_back job points (t + 1) ≡ option_or (option_or stop found) first
+kept job points t before stop found first here is so_far =
+    let stop_is = is ∙ ap (λ (k : CursorAt). then_some (stops_before k.job points k.time) (stop_at k.job points k.time)) here in
+    last_more job points t
+    ∙ ap (λ (o : Option Stop). option_or o (found_back job points t)) (sym stop_is)
+    ∙ ap (option_or stop) so_far
+    ∙ by stop
+  where
+    by : (o : Option Stop) → option_or o (option_or found first) ≡ option_or (option_or o found) first
+    by None = refl
+    by (Some s) = refl
 
 -- what is found before a time is before it
 pub found_before : (job : Job) (points : PointsAt) (t : ℕ) (stop : Stop) → Some stop ≡ found_back job points t → stop.step < t

@@ -56,8 +56,7 @@ fn stop_ahead(cursor: &mut Cursor<'_>, points: &Points) -> Option<Stop>
         (stop_at cursor.old.job points.now cursor.old.time) }
     ensures moved { cursor.new ≡ record { job = cursor.old.job; time = cursor.old.time + 1 } }
 {
-    let step = cursor.time();
-    let pc = cursor.pc();
+    let (step, pc) = (cursor.time(), cursor.pc());
     let met = make_step(cursor, points);
     let stops = points.is_point(&met, pc);
     stops.then_some(Stop { step, met })
