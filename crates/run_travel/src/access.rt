@@ -2,7 +2,8 @@
 
 ghost use Rattle.std.specs.Prelude.{◌≡◌};
 ghost use Rattle.rv_decode.specs.Accesses.{access_of};
-ghost use Rattle.run_travel.specs.Accesses.{size_loaded, size_stored, read_by, written_by};
+ghost use Rattle.checkpoints.specs.Touched.{stored_size};
+ghost use Rattle.run_travel.specs.Accesses.{size_loaded, read_by, written_by};
 
 use flow_model::StepSeen;
 use isa::{CallKind, Instr};
@@ -30,7 +31,7 @@ fn size_loaded(instr: Instr) -> u32
 /// How many bytes an instruction stores.
 #[inline(always)]
 fn size_stored(instr: Instr) -> u32
-    ensures { result ≡ size_stored (access_of instr) }
+    ensures { result ≡ stored_size instr }
 {
     match instr {
         Instr::Sb { .. } => 1,
