@@ -1,11 +1,21 @@
--- What is always true of moves.
-use Rattle.std.specs.Prelude.{◌≡◌, ℕ, ◌+◌, ◌<◌, ◌≤◌, Bool, true, false, [], Option, Some, None}
+-- What is always true of watchpoints and moves.
+use Rattle.std.specs.Prelude.{◌≡◌, ℕ, ◌+◌, ◌<◌, ◌≤◌, ◌↔◌, Bool, true, false, [], Option, Some, None}
 use Rattle.log_model.specs.Logs.{steps}
 use Rattle.replayer.specs.Jobs.{Job}
+use Rattle.run_travel.specs.declared.access.Span.{Span}
 use Rattle.run_travel.specs.declared.aim.Aim.{Aim}
 use Rattle.run_travel.specs.declared.aim.Aim.TheVariants.{Step, Points}
-use Rattle.run_travel.specs.Stops.{PointsAt, pc_at, is_break, stops_after, stops_before}
+use Rattle.run_travel.specs.declared.watch.Watch.{Watch}
+use Rattle.run_travel.specs.Stops.{PointsAt, looks_at, pc_at, is_break, stops_after, stops_before}
 use Rattle.run_travel.specs.Moves.{stop_on, stop_back, time_after}
+
+-- the byte at an address is both watched and one of these
+abbrev pub IsOfBoth : Watch → Span → ℕ → Type 0
+IsOfBoth w bytes b = (w.place ≤ b) × (b < w.place + w.length) × (bytes.place ≤ b) × (b < bytes.place + bytes.size)
+
+-- what a step reads, or writes, meets a watchpoint of that exactly where some byte is of both: so where there is none, it doesn't
+abbrev pub SomeByteIsOfBoth : Type 0
+SomeByteIsOfBoth = (w : Watch) (bytes : Span) → (looks_at w bytes ≡ true) ↔ ((b : ℕ) × IsOfBoth w bytes b)
 
 -- none of the numbers from one on, below another, passes a test
 abbrev pub NonePasses : (ℕ → Bool) → ℕ → ℕ → Type 0

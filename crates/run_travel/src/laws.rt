@@ -1,6 +1,12 @@
 //! Laws of the definitions: each is the contract of a function that does nothing.
 
-ghost use Rattle.run_travel.specs.MoveLaws.{NothingIsPassedOn, NothingIsPassedBack, OneStepIsMade, OnIsTakenBack};
+ghost use Rattle.run_travel.specs.MoveLaws.{SomeByteIsOfBoth, NothingIsPassedOn, NothingIsPassedBack, OneStepIsMade, OnIsTakenBack};
+
+/// A step meets a watchpoint exactly where some byte is both watched and one that the step reads, or writes. An access of no bytes
+/// meets none, wherever it is said to be.
+pub fn a_watchpoint_is_met_by_a_byte_of_both()
+    ensures { SomeByteIsOfBoth }
+{}
 
 /// Between the ends of a move there is no stop. A move forward ends behind the first step at which the run stops, or at the end of
 /// a run that has none; a move back before the last one, or at the beginning.

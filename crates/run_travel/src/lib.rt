@@ -1,8 +1,9 @@
 //! A place in a recorded run that a debugger moves: to a time, on to the next stop, and back to the last one.
 //!
 //! What there is to read stands in specs/: the bytes that a step reads and writes (Accesses.antt), breakpoints and watchpoints,
-//! and which steps meet them (Stops.antt), where a move stops and why (Moves.antt). Proved (`laws`): between the ends of a move
-//! there is no stop, forward and back; a move by one step makes one; and a move on from a breakpoint is taken back by a move back.
+//! and which steps meet them (Stops.antt), where a move stops and why (Moves.antt). Proved (`laws`): a step meets a watchpoint
+//! exactly where some byte is of both; between the ends of a move there is no stop, forward and back; a move by one step makes
+//! one; and a move on from a breakpoint is taken back by a move back.
 //!
 //! Crates above rest on this: `Travel` stands at a time of its job's run, as a `replayer::Cursor` there; `go_to`, `go_on`,
 //! `step_back` and `go_back` move it as the definitions say, tell why they stopped, and leave it as it was where memory runs
