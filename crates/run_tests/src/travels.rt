@@ -136,7 +136,7 @@ fn moves_over_a_copy(rt: HostRuntime) {
     }
 }
 
-/// A store of two bytes is met at its last, by what watches writes, and not behind it, nor by what watches reads.
+/// A store of two bytes is met at its last, by what watches writes, and not after it, nor by what watches reads.
 const STORED: [Order; 5] = [
     Order::Watch(WatchKind::Writes, 0x10102, 2),
     Order::Watch(WatchKind::Reads, 0x10101, 1),
@@ -207,7 +207,7 @@ fn assert_goes(rt: &impl Runtime, job: &Job, times: (u64, u64), x5: u32) {
 }
 
 #[test]
-fn a_time_is_reached_from_before_and_from_behind(rt: HostRuntime) {
+fn a_time_is_reached_from_before_and_from_after(rt: HostRuntime) {
     let job = job_of(&rt, &COUNT_DOWN);
     for times in [
         (0, 1001),

@@ -41,7 +41,7 @@ passed job points t e =
     let pc = pc_at job (t + 1) in
     (or_parts (is_some met) (is_break points pc) ((or_parts (is_point points met pc) false e).0)).1
 
--- from one breakpoint on, up to a time, no pc behind is another, so it's the last one before that time
+-- from one breakpoint on, up to a time, no later pc is another, so it's the last one before that time
 last_is : (job : Job) (points : PointsAt) (t last : ℕ) (o : Option ℕ) → points.watches ≡ [] → is_break points (pc_at job t) ≡ true → t ≤ last
     → NonePasses (stops_after job points Points) t last → IsGreatest (stops_before job points) 0 (last + 1) o → o ≡ Some t
 last_is job points t last None alone here low none is =

@@ -23,7 +23,7 @@ stops_here job points aim t h e =
 
 -- ---- one step more
 
--- where a cursor stands at time t, the run makes a step, and stops behind it, or not
+-- where a cursor stands at time t, the run makes a step, and stops after it, or not
 pub record IsMadeOn (job : Job) (points : PointsAt) (aim : Aim) (t : ℕ) (before : CursorAt) (stop : Option Stop) : Type 0 where
   pub here : before ≡ record { job = job; time = t }
   pub below : t < steps job.log

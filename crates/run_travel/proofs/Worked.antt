@@ -27,7 +27,7 @@ plain instr = record { number = 7; instr = instr; place = 0x10100; call = None }
 abbrev call : CallKind → ℕ → StepSeen
 call kind length = record { number = 7; instr = Ecall; place = 0; call = Some (record { kind = kind; channel = 0; place = 0x10100; offset = 0; length = length }) }
 
--- a store of four bytes: of its first, of its last, of those before and behind, and of one that only reads
+-- a store of four bytes: of its first, of its last, of those before and after, and of one that only reads
 stored : (meets (plain (Sw 1 2 (pos 0))) (watch Writes 0x100fe 3) ≡ true) × (meets (plain (Sw 1 2 (pos 0))) (watch Both 0x10103 1) ≡ true)
     × (meets (plain (Sw 1 2 (pos 0))) (watch Writes 0x100fe 2) ≡ false) × (meets (plain (Sw 1 2 (pos 0))) (watch Writes 0x10104 4) ≡ false)
     × (meets (plain (Sw 1 2 (pos 0))) (watch Reads 0x10100 4) ≡ false)

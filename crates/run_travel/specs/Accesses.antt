@@ -24,7 +24,8 @@ abbrev pub size_taken : CallKind → ℕ → ℕ
 size_taken Write n = n
 size_taken _ n = 0
 
--- what a step with this call, if it is one, reads and writes. What is stored, and what a read puts there, is what checkpoints note
+-- what a step with this call, if it is one, reads and writes. What is stored, and what a read puts there, is what
+-- checkpoints note
 abbrev pub read_by : StepSeen → Option CallSeen → Span
 read_by step None = record { place = step.place; size = size_loaded (access_of step.instr) }
 read_by step (Some call) = record { place = call.place; size = size_taken call.kind call.length }

@@ -13,7 +13,8 @@ use Rattle.run_travel.specs.Moves.{stop_on, stop_back, time_after}
 abbrev pub IsOfBoth : Watch → Span → ℕ → Type 0
 IsOfBoth w bytes b = (w.place ≤ b) × (b < w.place + w.length) × (bytes.place ≤ b) × (b < bytes.place + bytes.size)
 
--- what a step reads, or writes, meets a watchpoint of that exactly where some byte is of both: so where there is none, it doesn't
+-- what a step reads, or writes, meets a watchpoint of that exactly where some byte is of both: so where there is none,
+-- it doesn't
 abbrev pub SomeByteIsOfBoth : Type 0
 SomeByteIsOfBoth = (w : Watch) (bytes : Span) → (looks_at w bytes ≡ true) ↔ ((b : ℕ) × IsOfBoth w bytes b)
 
@@ -31,7 +32,8 @@ abbrev pub IsGreatest : (ℕ → Bool) → ℕ → ℕ → Option ℕ → Type 0
 IsGreatest passes from below None = NonePasses passes from below
 IsGreatest passes from below (Some n) = (from ≤ n) × (n < below) × (passes n ≡ true) × NonePasses passes (n + 1) below
 
--- forward, the run stops behind the first of the steps to come at which it is to, and back before the last of those that are done
+-- forward, the run stops after the first of the steps to come after which it is to, and back before the last of those
+-- that are done before which it is to
 abbrev pub NothingIsPassedOn : Type 0
 NothingIsPassedOn = (job : Job) (points : PointsAt) (aim : Aim) (t : ℕ) → t ≤ steps job.log
     → IsLeast (stops_after job points aim) t (steps job.log) (stop_on job points aim t)

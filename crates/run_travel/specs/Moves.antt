@@ -13,11 +13,11 @@ use Rattle.run_travel.specs.Stops.{PointsAt, met_at, stops_after, stops_before}
 
 -- ---- where
 
--- on from time t: the first of the steps to come behind which the run stops, if there is one
+-- on from time t: the first of the steps to come after which the run stops, if there is one
 abbrev pub stop_on : Job → PointsAt → Aim → ℕ → Option ℕ
 stop_on job points aim t = find (stops_after job points aim) (range_with_len t (steps job.log - t))
 
--- the time behind it. Without one the run goes on to its end
+-- the time after it. Without one the run goes on to its end
 abbrev pub time_after : Job → Option ℕ → ℕ
 time_after job None = steps job.log
 time_after job (Some step) = step + 1
@@ -43,8 +43,8 @@ cause_at_end (Exit at code) = End
 cause_at_end (Trap at kind pc) = Trapped kind
 cause_at_end (Limit at) = End
 
--- a move on from time t that stopped behind this step, or at the end of the run. A breakpoint there isn't told, and where no step
--- was made, it is the end, even of a run that traps
+-- a move on from time t that stopped after this step, or at the end of the run. A breakpoint there isn't told, and
+-- where no step was made, it is the end, even of a run that traps
 abbrev pub cause_on : Job → PointsAt → ℕ → Option ℕ → Cause
 cause_on job points t None = if t == steps job.log then End else cause_at_end job.log.end
 cause_on job points t (Some step) =

@@ -95,7 +95,7 @@ is_reached Step pc = true
 is_reached Points pc = false
 is_reached (Leave from past) pc = nat_lt pc from || nat_le past pc
 
--- a run that goes on stops behind step t, at time t + 1
+-- a run that goes on stops after step t, at time t + 1
 abbrev pub stops_after : Job → PointsAt → Aim → ℕ → Bool
 stops_after job points aim t =
     is_point points (met_at job points t) (pc_at job (t + 1)) || is_reached aim (pc_at job (t + 1))

@@ -62,8 +62,8 @@ pub(crate) fn cursor_at<'a>(
     Ok(cursor)
 }
 
-/// The cursor as it is, and the watchpoint that the step which it makes next meets, if it meets one. It gives up with NoMemory
-/// alone.
+/// The cursor as it is, and the watchpoint that the step which it makes next meets, if it meets one. It gives up with
+/// NoMemory alone.
 pub(crate) fn look_ahead<'a>(
     alloc: Global,
     job: &'a Job,
@@ -75,6 +75,9 @@ pub(crate) fn look_ahead<'a>(
     ensures same { IfOk result (λ it. it.0 ≡ cursor.entry) }
     ensures met { IfOk result (λ it. it.1 ≡ met_at job.now points.now cursor.entry.time) }
 {
+    if !points.has_watches() {
+        return Ok((cursor, None));
+    }
     let state = cursor.save(alloc)?;
     let met = make_step(&mut cursor, points);
     let mut again = Cursor::from(job, state);
@@ -82,7 +85,8 @@ pub(crate) fn look_ahead<'a>(
     Ok((again, met))
 }
 
-/// The last stop before a time. The epochs are searched one by one, the last one first. It gives up with NoMemory alone.
+/// The last stop before a time. The epochs are searched one by one, the last one first. It gives up with NoMemory
+/// alone.
 pub(crate) fn stop_before(
     alloc: Global,
     checkpoints: &Checkpoints<'_>,

@@ -1,6 +1,6 @@
 //! Breakpoints and watchpoints.
 
-ghost use Rattle.std.specs.Prelude.{◌≡◌, ◌==◌, ◌||◌, [], Some, not, filter, IfSome, OnOk, OnErr};
+ghost use Rattle.std.specs.Prelude.{◌≡◌, ◌==◌, ◌||◌, [], false, Some, not, filter, IfSome, OnOk, OnErr};
 ghost use Rattle.std.specs.List.{find, list_any};
 ghost use Rattle.std.specs.Option.{is_some};
 ghost use Rattle.run_travel.specs.Stops.{same_watch, meets, met_by, is_break, is_point, with_break, without_break, with_watch, without_watch};
@@ -11,8 +11,8 @@ use no_memory::NoMemory;
 use std::alloc::Global;
 use std::marker::Model;
 
-/// Breakpoints, which are addresses of instructions, and watchpoints: of each kind a list, in the order in which they were
-/// set. None stands twice.
+/// Breakpoints, which are addresses of instructions, and watchpoints: of each kind a list, in the order in which they
+/// were set. None stands twice.
 #[derive(Drop)]
 pub struct Points {
     breaks: Vec<u32>,
@@ -80,7 +80,7 @@ impl Points {
         }
     }
 
-    /// Sets a breakpoint behind the others. Where it is set, nothing changes. It gives up with NoMemory alone.
+    /// Sets a breakpoint after the others. Where it is set, nothing changes. It gives up with NoMemory alone.
     pub fn set_break(&mut self, pc: u32) -> Result<(), NoMemory>
         ensures ok { OnOk result (self.new ≡ with_break self.old pc) }
         ensures err { OnErr result (self.new ≡ self.old) }
@@ -98,7 +98,7 @@ impl Points {
         clear_break(&mut self.breaks, pc);
     }
 
-    /// Sets a watchpoint behind the others. Where it is set, nothing changes. It gives up with NoMemory alone.
+    /// Sets a watchpoint after the others. Where it is set, nothing changes. It gives up with NoMemory alone.
     pub fn set_watch(&mut self, watch: Watch) -> Result<(), NoMemory>
         ensures ok { OnOk result (self.new ≡ with_watch self.old watch) }
         ensures err { OnErr result (self.new ≡ self.old) }
@@ -122,6 +122,13 @@ impl Points {
         ensures { result ≡ met_by self.now (Some step.now) }
     {
         first_met(&self.watches, step)
+    }
+
+    /// Whether there is a watchpoint.
+    pub(crate) fn has_watches(&self) -> bool
+        ensures { result ≡ false → self.now.watches ≡ [] }
+    {
+        !self.watches.is_empty()
     }
 
     /// Whether a run stops at a pc, by a step that meets this watchpoint, if any.

@@ -33,9 +33,9 @@ pub(crate) fn make_step(cursor: &mut Cursor<'_>, points: &Points) -> Option<Watc
     points.met(&step)
 }
 
-/// Makes the next step of the run. It answers the step, where a run that goes on stops behind it.
+/// Makes the next step of the run. It answers the step, if a run that goes on stops after it.
 #[inline(always)]
-fn stop_behind(cursor: &mut Cursor<'_>, points: &Points, aim: Aim) -> Option<Stop>
+fn stop_after_next(cursor: &mut Cursor<'_>, points: &Points, aim: Aim) -> Option<Stop>
     requires { cursor.old.time < steps_of cursor.old.job.log }
     ensures stop { result ≡ then_some (stops_after cursor.old.job points.now aim cursor.old.time)
         (stop_at cursor.old.job points.now cursor.old.time) }
@@ -48,9 +48,9 @@ fn stop_behind(cursor: &mut Cursor<'_>, points: &Points, aim: Aim) -> Option<Sto
     stops.then_some(Stop { step, met })
 }
 
-/// Makes the next step of the run. It answers the step, where a run that goes back stops before it.
+/// Makes the next step of the run. It answers the step, if a run that goes back stops before it.
 #[inline(always)]
-fn stop_ahead(cursor: &mut Cursor<'_>, points: &Points) -> Option<Stop>
+fn stop_before_next(cursor: &mut Cursor<'_>, points: &Points) -> Option<Stop>
     requires { cursor.old.time < steps_of cursor.old.job.log }
     ensures stop { result ≡ then_some (stops_before cursor.old.job points.now cursor.old.time)
         (stop_at cursor.old.job points.now cursor.old.time) }
@@ -62,7 +62,8 @@ fn stop_ahead(cursor: &mut Cursor<'_>, points: &Points) -> Option<Stop>
     stops.then_some(Stop { step, met })
 }
 
-/// Goes on until the run stops behind a step, which is answered; where it stops behind none, to its end after so many steps.
+/// Goes on past the first step after which the run stops, and answers it; if there is none, to the run's end, after so
+/// many steps.
 pub(crate) fn next_stop(
     cursor: &mut Cursor<'_>,
     steps: u64,
@@ -80,7 +81,7 @@ pub(crate) fn next_stop(
     ensures within { cursor.new.time ≤ steps }
 {
     for _step in cursor.time()..steps {
-        let stop = stop_behind(cursor, points, aim);
+        let stop = stop_after_next(cursor, points, aim);
         if stop.is_some() {
             return stop;
         }
@@ -88,7 +89,7 @@ pub(crate) fn next_stop(
     None
 }
 
-/// The last stop before a time, among the steps from the cursor's time on. The cursor goes on to that time.
+/// The last stop before a time, among the steps from the cursor's time on, which are made.
 pub(crate) fn last_stop(cursor: &mut Cursor<'_>, before: u64, points: &Points) -> Option<Stop>
     requires from { cursor.old.time ≤ before }
     requires within { before ≤ steps_of cursor.old.job.log }
@@ -97,7 +98,7 @@ pub(crate) fn last_stop(cursor: &mut Cursor<'_>, before: u64, points: &Points) -
 {
     let mut found = None;
     for _step in cursor.time()..before {
-        found = stop_ahead(cursor, points).or(found);
+        found = stop_before_next(cursor, points).or(found);
     }
     found
 }

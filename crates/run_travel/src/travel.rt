@@ -87,8 +87,8 @@ impl<'a> Travel<'a> {
         Ok(())
     }
 
-    /// Goes on to the time behind the first step at which the run stops; where there is none, to the end of the run. It takes
-    /// no memory.
+    /// Goes on past the first step after which the run stops; if there is none, to the end of the run. It takes no
+    /// memory.
     pub fn go_on(&mut self, points: &Points, aim: Aim) -> Cause
         ensures moved { self.new ≡ record {
           job = self.old.job;
@@ -129,7 +129,7 @@ impl<'a> Travel<'a> {
         Ok(cause_of(met, Cause::Arrived))
     }
 
-    /// Goes back to the time before the last step at which a run that comes from later stops; where there is none, to the
+    /// Goes back to before the last step before which a run that comes from later stops; if there is none, to the
     /// beginning of the run. It gives up with NoMemory alone.
     pub fn go_back(&mut self, points: &Points) -> Result<Cause, NoMemory>
         ensures moved { OnOk result (self.new ≡ record {

@@ -7,8 +7,8 @@ use crate::access::{Span, read_by, written_by};
 use crate::kind::WatchKind;
 use flow_model::StepSeen;
 
-/// A watchpoint: some bytes of memory, of which `place` is the address of the first. One of no bytes is met by no step. The
-/// end isn't taken modulo 2^32.
+/// A watchpoint: some bytes of memory, of which `place` is the address of the first. One of no bytes is met by no step.
+/// The end isn't taken modulo 2^32.
 #[derive(Clone, Copy)]
 pub struct Watch {
     pub kind: WatchKind,

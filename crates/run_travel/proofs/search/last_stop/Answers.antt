@@ -14,8 +14,8 @@ loop-step-preserved c =
     let step = c.loop-step in
     let first = found_back job points c.args.cursor.now.time in
     record {
-      here = c.stop_ahead.ensures.moved ∙ ap (λ (k : CursorAt). record { job = k.job; time = k.time + 1 }) step.invariant.here;
+      here = c.stop_before_next.ensures.moved ∙ ap (λ (k : CursorAt). record { job = k.job; time = k.time + 1 }) step.invariant.here;
       last =
-          kept job points step._step step.cursor c.stop_ahead.result step.found first step.invariant.here c.stop_ahead.ensures.stop step.invariant.last
+          kept job points step._step step.cursor c.stop_before_next.result step.found first step.invariant.here c.stop_before_next.ensures.stop step.invariant.last
           ∙ ap (λ (o : Option Stop). option_or o first) (sym c.or-found.ensures);
     }

@@ -2,7 +2,7 @@ use Rattle.std.proofs.Common.{◌≡◌}
 use Rattle.run_travel.specs.Moves.{stop_on}
 use Rattle.run_travel.proofs.search.next_stop.Given as goal
 
--- the run stopped behind no step so far
+-- the run is to stop after none of the steps so far
 abbrev pub invariant-loop-step : goal.invariant-loop-step
 invariant-loop-step l =
     let job = l.initial.cursor.job in
