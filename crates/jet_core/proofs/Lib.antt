@@ -10,8 +10,4 @@ mod Placing
 mod Laying
 mod Nodes
 mod Doing
-mod More
-mod Back
-mod Cuts
-mod Tickets
-mod Together
+mod Analyses

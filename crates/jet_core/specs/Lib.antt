@@ -3,5 +3,3 @@ pub mod Turns
 pub mod Lines
 pub mod Streams
 pub mod Left
-pub mod Asking
-pub mod Tickets

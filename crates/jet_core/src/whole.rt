@@ -1,4 +1,4 @@
-//! A query over a whole run, by the line of nodes, on one thread, and by lists.
+//! A query over a whole run, by the line of nodes, on one thread, and by one log.
 
 ghost use Rattle.std.specs.Prelude.{◌≡◌, IfOk};
 ghost use Rattle.log_model.specs.Logs.{steps};
@@ -8,15 +8,13 @@ ghost use Rattle.stream_model.specs.Work.{run_work};
 ghost use Rattle.replayer.specs.Jobs.{trace_of};
 ghost use Rattle.sink_collect.specs.Pairs.{capped};
 ghost use Rattle.run_query.specs.Crossings.{crossed};
-ghost use Rattle.epoch_engine.specs.Collecting.{AreAtBeginnings, IsCollectedOf};
+ghost use Rattle.epoch_engine.specs.Collecting.{AreAtBeginnings, AreRowsOf, IsCollectedOf};
 
-use crate::analysing::found_at_once;
-use crate::asking::crossings;
-use crate::joining::join;
+use crate::analysing::rows_at_once;
 use checkpoints::Checkpoints;
 use epoch_cut::Cuts;
 use epoch_engine::{ClosureEngine, Collected, Parallelism};
-use epoch_line::work;
+use epoch_line::{rows, work};
 use epoch_link::Capacity;
 use no_memory::NoMemory;
 use outer_io::Gate;
@@ -24,7 +22,7 @@ use query_lang::Query;
 use replayer::Job;
 use run_query::{Crossed, QueryAnswer, answer_with};
 use seq_taint::rows_are_distinct;
-use sink_collect::{Report, gather};
+use sink_collect::{Report, SinkSets, gather};
 use std::alloc::Global;
 use std::sync::Wait;
 use std::thread::Threads;
@@ -48,6 +46,12 @@ pub fn query<G: Gate, R: Threads + Wait + Sync>(
 {
     let line = ClosureEngine {
         gate,
+        rows: |checkpoints: &Checkpoints<
+            '_,
+        >, query: &Query, cuts: Cuts, parallelism: Parallelism| -> Result<SinkSets, NoMemory>
+            requires { AreAtBeginnings cuts checkpoints.now }
+            ensures { IfOk result (AreRowsOf query.entry.now checkpoints.entry.now.job) }
+        { rows(rt, alloc, gate, checkpoints, query, cuts, parallelism) },
         work: |checkpoints: &Checkpoints<
             '_,
         >, query: &Query, cuts: Cuts, parallelism: Parallelism| -> Result<Collected, NoMemory>
@@ -93,7 +97,7 @@ pub fn round_robin<G: Gate>(
     Ok((report, crossed, events))
 }
 
-/// The report of a query over a run that is cut into epochs, analysed at once and joined by lists. It gives up with
+/// The report of a query over a run that is cut into epochs, analysed at once and joined by one log. It gives up with
 /// NoMemory alone.
 pub fn joined<R: Threads + Sync>(
     rt: &R,
@@ -107,12 +111,7 @@ pub fn joined<R: Threads + Sync>(
 {
     job.form();
     rows_are_distinct(job, query);
-    // The contract of this says that the points are at locations.
-    let _points = query.points();
     let checkpoints = Checkpoints::take(alloc, job, &cuts)?;
-    let tickets = cuts.tickets(alloc)?;
-    let summaries = found_at_once(rt, alloc, &checkpoints, query, tickets)?;
-    let crossings = crossings(alloc, &summaries)?;
-    let sets = join(alloc, &summaries, &crossings)?;
+    let sets = rows_at_once(rt, alloc, &checkpoints, query, cuts)?;
     gather(alloc, sets.into_vec())
 }

@@ -6,8 +6,8 @@ use Rattle.report_model.specs.Query.{Query}
 use Rattle.replayer.specs.Jobs.{trace_of}
 use Rattle.checkpoints.specs.Points.{CheckpointsAt}
 use Rattle.epoch_cut.specs.Numbered.{NumberedEpoch}
-use Rattle.jet_core.specs.Tickets.{IsFound}
-use Rattle.jet_core.proofs.Tickets.{all_collected}
+use Rattle.epoch_analysis.specs.Epochs.{IsFound}
+use Rattle.jet_core.proofs.Analyses.{all_collected}
 use Rattle.jet_core.proofs.analysing.found_at_once.Goals as goal
 
 pub returns : goal.returns
