@@ -9,7 +9,7 @@ use Rattle.flow_model.specs.declared.Message.{Message}
 use Rattle.flow_model.specs.declared.Message.TheVariants.{Ask, Byte, Close, End}
 use Rattle.epoch_model.specs.Summary.{Summary as EpochSummary, SinkTerms}
 use Rattle.stream_model.specs.Streams.{is_ended, requests}
-use Rattle.stream_model.specs.Passes.{Asking, Links, asking_event, asking_by, whole_asking, broken_asking, asked_more, asked_if, wanted_for, is_whole_message, drop_ask, pop_ask, end_asks, walk}
+use Rattle.stream_model.specs.Passes.{Asking, Links, asking_event, asking_by, whole_asking, broken_asking, asked_more, asked_if, wanted_for, is_whole_message, drop_ask, pop_ask, end_asks, walk, push_ask}
 use Rattle.stream_model.specs.Schedules.{begun, whole_asking_need, asking_need_by, asking_need}
 use Rattle.stream_model.specs.Schedules as need
 use Rattle.stream_model.proofs.Growing.{requests_more}
@@ -308,9 +308,6 @@ module _ (v : BackView) (got sent : Option (List Message)) (k : Keeps v got sent
             ∙ ap (λ (ms : List Message). end_asks true (asking_of v (got_by got) ms)) (sym (ap (λ (b : Bool). unsent b v.whole) r.running))
             ∙ sym (at (unsent v.over v.whole))
         by (Some sent) e = ap (state (record v { over = true }) got) e ∙ sym (at sent)
-
--- the steps of the event that the tactic takes by itself
-pub ruleset steps = (push_next, over_next, full_next, empty_next, no_room_next)
 
 -- ---- what the event needs
 

@@ -18,7 +18,6 @@ use pass_parts::{Request, Requests, read_end_terms, share_end_terms};
 
 /// Asks for a start location. It gives how many of the asked locations there are up to it. When out of memory nothing is
 /// asked.
-#[tactic(auto, using(crate::proofs::Starts::place_is))]
 fn add_start(asked: &mut Asked, start: Loc) -> Result<usize, NoMemory>
     ensures added { OnOk result (asked.new ≡ added asked.old start) }
     ensures up_to { IfOk result (λ n. n ≡ places_up_to asked.new start) }
@@ -31,7 +30,6 @@ fn add_start(asked: &mut Asked, start: Loc) -> Result<usize, NoMemory>
 
 /// Asks for the start locations that were read last. It gives how many of the asked locations there are up to the last
 /// of them. When out of memory, part of them may be asked.
-#[tactic(auto, using(crate::proofs::Starts::added_next, crate::proofs::Starts::needed_step))]
 fn add_starts(reader: &TermsReader, asked: &mut Asked) -> Result<usize, NoMemory>
     ensures added { OnOk result (asked.new ≡ added_all asked.old reader.now.starts) }
     ensures needed { IfOk result (λ n. n ≡ places_needed asked.new reader.now.starts) }

@@ -195,7 +195,6 @@ impl Back {
     /// The next event. It is NotYet only where the one link that it needs refused in this call, and then nothing
     /// else changed. It is Over exactly where the End is sent in this call or was before. A push takes no memory,
     /// and neither does any event of a broken pass.
-    #[tactic(auto, using(crate::proofs::Backing::steps))]
     pub fn event<I: Inlet<Message>, O: Outlet<Message>>(
         &mut self,
         inlet: &mut Option<I>,

@@ -11,7 +11,7 @@ use Rattle.report_model.specs.Rows.{Row}
 use Rattle.epoch_model.specs.Summary.{Summary as EpochSummary}
 use Rattle.epoch_model.specs.Join.{resolved, rows_of}
 use Rattle.stream_model.specs.Streams.{is_ended, is_resolvable, answer}
-use Rattle.stream_model.specs.Passes.{Answering, Links, answering_event, answering_by, whole_answering, broken_answering, is_whole_message, take_answer, drop_answer, pop_answer, build, build_or_pop, pop_or_end, resolve, resolve_or_end, end_answers}
+use Rattle.stream_model.specs.Passes.{Answering, Links, answering_event, answering_by, whole_answering, broken_answering, is_whole_message, take_answer, drop_answer, pop_answer, build, build_or_pop, pop_or_end, resolve, resolve_or_end, end_answers, push_answer}
 use Rattle.stream_model.specs.Schedules.{Item, answering_need, answering_need_by, whole_answering_need, last_need, nothing_or_item, item_or_room}
 use Rattle.stream_model.proofs.Moving.{ended_after}
 use Rattle.pass_parts.specs.declared.pass_turn.PassTurn.TheVariants.{Moved, NotYet, Over}
@@ -303,6 +303,3 @@ module _ (v : ForeView) (got sent : Option (List Message)) (k : ForeKeeps v got 
             ap (fore_state (record v { over = true }) got) e
             ∙ ap (λ (ms : List Message). end_answers true (answering_of v (got_by got) ms)) (sym (ap (λ (b : Bool). unsent b v.whole) r.running)) ∙ sym at
         by (Some sent) e at = ap (fore_state (record v { over = true }) got) e ∙ sym at
-
--- the steps of the event that the tactic takes by itself
-pub ruleset steps = (over_next, empty_next, no_room_next)

@@ -133,7 +133,6 @@ impl Fore {
 
     /// The next event. NotYet only where the one link that it needs refused in this call, and then nothing else
     /// changed; Over exactly where the End is sent, in this call or before.
-    #[tactic(auto, using(crate::proofs::Events::steps))]
     pub fn event<I: Inlet<Message>, O: Outlet<Message>>(
         &mut self,
         inlet: &mut Option<I>,

@@ -25,7 +25,6 @@ pub(crate) fn insert<T: Ord + Copy>(set: &mut Vec<T>, member: T) -> Result<(), N
 }
 
 /// Whether a member comes after all of a set.
-#[tactic(auto, using(crate::proofs::OneMore::inserted_last))]
 fn is_above<T: Ord>(member: &T, set: &[T]) -> bool
     requires { Ascends T.cmp set.now }
     ensures { result ≡ true → inserted T.cmp member.now set.now ≡ set.now ++ member.now ∷ [] }
