@@ -25,7 +25,7 @@ const HEARD: &[(&[u8], &[u8])] = &[
     (b"", b""),
     (b"$?#3f", b"[?]"),
     (b"$#00", b"[]"),
-    (b"+$p20#d2+$bs#D5+", b"[p20][bs]"),
+    (b"+$p20#d2+$bc#C5+", b"[p20][bc]"),
     (
         b"$\xff\xff\xff\xff\xff\xff#fA",
         b"[\xff\xff\xff\xff\xff\xff]",

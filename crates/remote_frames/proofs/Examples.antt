@@ -11,7 +11,7 @@ unfolding encode_with
 frames = (refl, refl, refl, refl)
 
 -- digits in either case; an acknowledgement and an interrupt say nothing, and `-` asks for the last answer
-packets : (heard (codes "+$p20#d2+$bs#D5") ≡ Packet (codes "p20") ∷ Packet (codes "bs") ∷ [])
+packets : (heard (codes "+$p20#d2+$bc#C5") ≡ Packet (codes "p20") ∷ Packet (codes "bc") ∷ [])
     × (heard (3 ∷ codes "-+-$?#3f") ≡ Again ∷ Again ∷ Packet (codes "?") ∷ [])
 unfolding heard
 packets = (refl, refl)

@@ -57,11 +57,11 @@ pub(crate) fn report<E: Engine>(
     requires cuts { IsCutting (steps job.now.log) cuts }
     ensures { IfOk result (λ report. report ≡ rows query.now (trace_of job.now)) }
 {
-    if cuts.count() == 1 {
-        engine.enter(0);
-        let sets = sequential(alloc, job, query)?;
-        return report_of(alloc, job, query, sets);
+    if cuts.count() > 1 {
+        let checkpoints = Checkpoints::take(alloc, job, &cuts)?;
+        return report_of_epochs(engine, alloc, job, &checkpoints, query, cuts, parallelism);
     }
-    let checkpoints = Checkpoints::take(alloc, job, &cuts)?;
-    report_of_epochs(engine, alloc, job, &checkpoints, query, cuts, parallelism)
+    engine.enter(0);
+    let sets = sequential(alloc, job, query)?;
+    report_of(alloc, job, query, sets)
 }

@@ -43,7 +43,7 @@ fn assert_ends(rt: &impl Runtime, travel: &Travel<'_>, cause: Cause, ends: Ends)
 }
 
 /// Does what is asked for.
-fn obey(rt: &impl Runtime, travel: &mut Travel<'_>, points: &mut Points, order: Order) {
+fn carry_out(rt: &impl Runtime, travel: &mut Travel<'_>, points: &mut Points, order: Order) {
     match order {
         Order::Break(pc) => points.set_break(pc).expect(rt, "memory"),
         Order::NoBreak(pc) => points.clear_break(pc),
@@ -86,7 +86,7 @@ fn assert_moves(rt: &impl Runtime, job: &Job, length: u64, orders: &[Order]) {
     let mut travel = Travel::new(alloc, job, &checkpoints, &cuts).expect(rt, "memory");
     let mut points = Points::new(alloc);
     for order in orders {
-        obey(rt, &mut travel, &mut points, *order);
+        carry_out(rt, &mut travel, &mut points, *order);
     }
 }
 
