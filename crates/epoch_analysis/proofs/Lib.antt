@@ -1,2 +1,2 @@
 pub mod Epochs
-pub mod Found
+pub mod Runs

@@ -1,4 +1,4 @@
-use Rattle.epoch_analysis.proofs.Found.{of_run}
+use Rattle.epoch_analysis.proofs.Runs.{of_run}
 use Rattle.epoch_line.proofs.working.rows.Goals as goal
 
 pub join-requires-in-ByOneLog : goal.join-requires-in-ByOneLog

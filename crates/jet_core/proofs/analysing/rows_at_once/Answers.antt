@@ -4,7 +4,7 @@ use Rattle.replayer.specs.Jobs.{trace_of}
 use Rattle.epoch_cut.specs.Numbered.{NumberedEpoch}
 use Rattle.epoch_analysis.specs.Epochs.{AreFound, BeginsAt}
 use Rattle.epoch_analysis.proofs.Epochs.{all_begin}
-use Rattle.epoch_analysis.proofs.Found.{of_run}
+use Rattle.epoch_analysis.proofs.Runs.{of_run}
 use Rattle.jet_core.proofs.analysing.rows_at_once.Goals as goal
 
 pub found_at_once-requires-after_bounds : goal.found_at_once-requires-after_bounds
