@@ -12,7 +12,7 @@ ghost use Rattle.no_memory.specs.Faults.{IsCausedBy};
 ghost use Rattle.replayer.specs.Jobs.{IsJob, begun};
 ghost use Rattle.replayer.specs.Checks.{IsChecked, IsMisfit};
 
-use crate::check::first_divergence;
+use crate::checker::{Checker, first_divergence};
 use crate::watcher::{Nobody, Watcher};
 use elf_image::Image;
 use log_model::{CallRecord, RunEnd};
@@ -20,7 +20,6 @@ use no_memory::{Fault, NoMemory};
 use replay_log::Log;
 use replay_model::Misfit;
 use rv_machine::Machine;
-use sha2::{Digest, Sha256};
 use std::alloc::Global;
 use std::marker::Model;
 
@@ -123,20 +122,12 @@ impl Job {
         ensures fault { IfErr result (IsCausedBy (IsMisfit program.now image log)) }
     {
         log.form();
-        let kept = log.digest();
-        let seen = Sha256::digest(program);
-        if kept != seen {
-            return Err(Fault::At(Misfit::WrongProgram { kept, seen }));
-        }
-        let machine = match Machine::new(alloc, &image, log.pages()) {
-            Ok(machine) => machine,
-            Err(Fault::At(window)) => return Err(Fault::At(Misfit::Window(window))),
-            Err(Fault::NoMemory(no_memory)) => return Err(Fault::NoMemory(no_memory)),
-        };
         let _size = log.size();
-        match first_divergence(machine, &log, watcher) {
-            Some(divergence) => Err(Fault::At(Misfit::Diverged(divergence))),
-            None => Ok(Job { image, log }),
+        let checker = Checker::open(alloc, program, &image, &log)?;
+        checker.begin(watcher);
+        match checker.finish(watcher) {
+            Ok(()) => Ok(Job { image, log }),
+            Err(divergence) => Err(Fault::At(Misfit::Diverged(divergence))),
         }
     }
 

@@ -11,6 +11,7 @@
 #![tactic(auto)]
 
 mod check;
+mod checker;
 mod compare;
 mod cursor;
 mod difference;
@@ -18,6 +19,7 @@ mod job;
 mod saved;
 mod watcher;
 
+pub use checker::Checker;
 pub use cursor::{Cursor, Next, PlainStep};
 pub use flow_model::{CallSeen, StepSeen};
 pub use isa::Instr;
