@@ -1,6 +1,7 @@
 -- An epoch that is analysed while it is checked, ahead of the check of the whole log.
-use Rattle.std.specs.Prelude.{◌≡◌, ℕ, ◌-◌, Option}
+use Rattle.std.specs.Prelude.{◌≡◌, ℕ, ◌-◌, List, Option}
 use Rattle.isa.specs.declared.Instr.{Instr}
+use Rattle.flow_model.specs.declared.StepSeen.{StepSeen}
 use Rattle.report_model.specs.Query.{Query}
 use Rattle.epoch_cut.specs.Numbered.{NumberedEpoch}
 use Rattle.epoch_model.specs.Summary.{IsSummary}
@@ -8,7 +9,7 @@ use Rattle.replay_run.specs.Runs.{RunAt}
 use Rattle.replayer.specs.Cursors.{Stands}
 use Rattle.replayer.specs.Jobs.{Job, trace_of}
 use Rattle.taint_tracking.specs.declared.tracking.Tracking.{Tracking}
-use Rattle.taint_tracking.specs.Watched.{Tracks, TracksPlain, quiet_of}
+use Rattle.taint_tracking.specs.Watched.{Tracks, TracksPlain, IsOfSteps, quiet_of}
 use Rattle.source_labels.specs.declared.nodes.Nodes.{Nodes}
 use Rattle.source_labels.specs.Words.{node_words}
 use Rattle.epoch_summary.specs.declared.summary.Summary.{Summary}
@@ -31,6 +32,14 @@ tracks was now job time = Tracks node_words (trace_of job) was.first time was.tr
 -- up to which time no point is due
 abbrev pub quiet_time : EpochTracking → ℕ
 quiet_time w = quiet_of w.tracking
+
+-- the summary of an epoch whose steps were tracked up to a time, of each trace of which they are
+pub record IsSummaryOfTracked (w : EpochTracking) (number : ℕ) (e : Summary) : Type 0 where
+  pub number_is : number_of e ≡ number
+  pub summary : (q : Query) (trace : List StepSeen) (time : ℕ) → IsOfSteps node_words q trace w.first time w.tracking
+      → IsSummary q trace w.first (time - w.first) (summary_of e)
+  pub in_range : (q : Query) (trace : List StepSeen) (time : ℕ) → IsOfSteps node_words q trace w.first time w.tracking
+      → AreInRange trace w.first (time - w.first)
 
 -- the summary of an epoch, of each job whose run stands where the epoch begins
 pub record IsFoundAhead (q : Query) (run : RunAt) (epoch : NumberedEpoch) (e : Summary) : Type 0 where

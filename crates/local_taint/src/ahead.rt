@@ -1,6 +1,6 @@
 //! The analysis of one epoch while it is checked.
 
-ghost use Rattle.std.specs.Prelude.{◌≡◌, ◌≤◌, None, IfOk, IfErr, OnOk};
+ghost use Rattle.std.specs.Prelude.{◌≡◌, ◌≤◌, None, List, IfOk, IfErr, OnOk};
 ghost use Rattle.log_model.specs.Logs.{end_at, steps};
 ghost use Rattle.no_memory.specs.Faults.{IsCausedBy};
 ghost use Rattle.flow_model.specs.declared.StepSeen.{StepSeen as AnyStep};
@@ -9,7 +9,7 @@ ghost use Rattle.replayer.specs.InParts.{AgreesSoFar, Differs};
 ghost use Rattle.replayer.specs.Jobs.{Job as JobAt};
 ghost use Rattle.source_labels.specs.Words.{node_words};
 ghost use Rattle.taint_tracking.specs.Watched.{IsOfSteps};
-ghost use Rattle.local_taint.specs.Ahead.{IsFoundAhead};
+ghost use Rattle.local_taint.specs.Ahead.{IsFoundAhead, IsSummaryOfTracked};
 
 use crate::analysis::summarize;
 use epoch_cut::EpochTicket;
@@ -84,6 +84,7 @@ impl<'q> Follower for EpochWatching<'q> {
 }
 
 impl<'q> Watcher for EpochWatching<'q> {
+    ghost use mathlib.Core.Path.{◌∙◌};
     ghost use Rattle.replayer.specs.Jobs.{trace_of};
     ghost use Rattle.local_taint.specs.Ahead.{tracks, quiet_time};
 
@@ -102,9 +103,6 @@ impl<'q> Watcher for EpochWatching<'q> {
     }
 
     #[inline(always)]
-    fn begin(&mut self, _at: &Position<'_, '_>) {}
-
-    #[inline(always)]
     fn plain(&mut self, time: u64, step: PlainStep, _at: &Position<'_, '_>) {
         let PlainStep { instr, place } = step;
         self.watching.track(&StepSeen {
@@ -121,6 +119,15 @@ impl<'q> Watcher for EpochWatching<'q> {
     }
 }
 
+/// The summary of the epoch of this number, of which all steps were tracked. It gives up with NoMemory alone: where memory ran
+/// out meanwhile.
+fn summarized(number: u32, watching: EpochWatching<'_>) -> Result<Summary, NoMemory>
+    ensures { IfOk result (IsSummaryOfTracked watching.entry number) }
+{
+    let tracked = watching.watching.finish()?;
+    Ok(summarize(number, tracked))
+}
+
 /// The summary of the ticket's epoch, which is checked meanwhile, and isn't the run's last. It says where the log differs from
 /// the run; else it gives up with NoMemory alone.
 pub fn analyse_ahead(
@@ -130,17 +137,19 @@ pub fn analyse_ahead(
     query: &Query,
 ) -> Result<Summary, Fault<Divergence>>
     requires begins { checker.moment.time ≡ ticket.first }
+    requires later { ticket.first ≤ ticket.past_last }
     requires ends { ticket.past_last ≤ end_at checker.log.end }
     ensures found { IfOk result (IsFoundAhead query.now checker.entry ticket) }
     ensures fault { IfErr result (IsCausedBy (Differs checker.entry)) }
 {
-    let (first, past_last) = (ticket.first(), ticket.past_last());
-    let mut watching = EpochWatching::begin(alloc, query, first)?;
-    if let Err(divergence) = checker.go_to(past_last, &mut watching) {
-        return Err(Fault::At(divergence));
+    let mut watching = EpochWatching::begin(alloc, query, ticket.first())?;
+    match checker.go_to(ticket.past_last(), &mut watching) {
+        Ok(_) => {
+            let summary = summarized(ticket.number(), watching)?;
+            Ok(summary)
+        }
+        Err(divergence) => Err(Fault::At(divergence)),
     }
-    let tracked = watching.watching.finish()?;
-    Ok(summarize(ticket.number(), tracked))
 }
 
 /// The summary of the ticket's epoch, the run's last, which is checked meanwhile up to the log's end. It says where the log
@@ -160,9 +169,11 @@ pub fn analyse_last(
     ensures fault { IfErr result (IsCausedBy (Differs checker.entry)) }
 {
     let mut watching = EpochWatching::begin(alloc, query, ticket.first())?;
-    if let Err(divergence) = checker.finish(&mut watching) {
-        return Err(Fault::At(divergence));
+    match checker.finish(&mut watching) {
+        Ok(()) => {
+            let summary = summarized(ticket.number(), watching)?;
+            Ok(summary)
+        }
+        Err(divergence) => Err(Fault::At(divergence)),
     }
-    let tracked = watching.watching.finish()?;
-    Ok(summarize(ticket.number(), tracked))
 }

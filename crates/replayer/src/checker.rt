@@ -6,16 +6,13 @@ ghost use Rattle.no_memory.specs.Faults.{IsCausedBy};
 ghost use Rattle.replay_model.specs.Comparison.{divergence};
 ghost use Rattle.replay_run.specs.Counters.{CountRecords};
 ghost use Rattle.replayer.specs.Checks.{IsMisfit};
-ghost use Rattle.replayer.specs.Cursors.{Stands};
 ghost use Rattle.replayer.specs.InParts.{IsOpened, IsCheckedTo, IsCheckedToEnd, resumed};
-ghost use Rattle.replayer.specs.Jobs.{Job as JobAt};
-ghost use Rattle.replayer.specs.Saved.{IsOfJob};
 ghost use Rattle.replayer.specs.Watching.{IsBegun};
 
 use crate::check::{check_end, check_to};
 use crate::job::CheckFault;
 use crate::saved::CursorState;
-use crate::watcher::{Position, Watcher};
+use crate::watcher::{Position, RunWatcher, Watcher};
 use elf_image::Image;
 use no_memory::{Fault, NoMemory};
 use replay_log::Log;
@@ -74,7 +71,7 @@ impl<'a> Checker<'a> {
     }
 
     /// Tells a watcher that the run stands at its beginning.
-    pub(crate) fn begin<W: Watcher>(&self, watcher: &mut W)
+    pub(crate) fn begin<W: RunWatcher>(&self, watcher: &mut W)
         ensures { IsBegun W.seen self.now watcher.old watcher.new }
     {
         watcher.begin(&Position { run: &self.run });
@@ -91,10 +88,10 @@ impl<'a> Checker<'a> {
         Ok(Checker { run })
     }
 
-    /// The state, copied: that of a cursor at this time of each job whose run stands here. It gives up with NoMemory alone.
+    /// The state, copied, from which [`Checker::resume`] goes on as this check does. It gives up with NoMemory alone.
     pub fn state(&self, alloc: Global) -> Result<CursorState, NoMemory>
-        ensures of_job { IfOk result (λ saved. (job : JobAt) → Stands job self.now → IsOfJob job saved) }
-        ensures time { IfOk result (λ saved. saved.counters.time ≡ self.now.moment.time) }
+        ensures counted { IfOk result (λ saved. CountRecords self.now.log saved.counters) }
+        ensures again { IfOk result (λ saved. resumed self.now.log saved ≡ self.now) }
     {
         let counters = self.run.counters();
         let machine = self.run.machine().export_state(alloc)?;
@@ -131,7 +128,7 @@ impl<'a> Checker<'a> {
 
 /// The first difference between a log and a machine's run under it, up to the log's end. The watcher is told of each step
 /// before it: where nothing differs, of the whole run.
-pub(crate) fn first_divergence<W: Watcher>(
+pub(crate) fn first_divergence<W: RunWatcher>(
     machine: Machine,
     log: &Log,
     watcher: &mut W,

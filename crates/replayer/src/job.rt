@@ -13,7 +13,7 @@ ghost use Rattle.replayer.specs.Jobs.{IsJob, begun};
 ghost use Rattle.replayer.specs.Checks.{IsChecked, IsMisfit};
 
 use crate::checker::{Checker, first_divergence};
-use crate::watcher::{Nobody, Watcher};
+use crate::watcher::{Nobody, RunWatcher};
 use elf_image::Image;
 use log_model::{CallRecord, RunEnd};
 use no_memory::{Fault, NoMemory};
@@ -109,7 +109,7 @@ impl Job {
 
     /// The same as [`Job::check`], with a watcher that is told of each step of the run as it is checked. Where the log fits, it
     /// has seen all steps of the job; else what it saw is of no use.
-    pub fn check_watched<W: Watcher>(
+    pub fn check_watched<W: RunWatcher>(
         alloc: Global,
         program: &[u8],
         image: Image,
@@ -140,7 +140,7 @@ impl Job {
 
     /// Replays the run once more, and tells the watcher of each step of it, as [`Job::check_watched`] does. It gives up with
     /// NoMemory alone, where there is none for the window.
-    pub fn watch<W: Watcher>(&self, alloc: Global, watcher: &mut W) -> Result<(), NoMemory>
+    pub fn watch<W: RunWatcher>(&self, alloc: Global, watcher: &mut W) -> Result<(), NoMemory>
         ensures { OnOk result (W.seen watcher.old watcher.new self.now (steps self.now.log)) }
     {
         self.form();

@@ -27,4 +27,4 @@ pub use job::{CheckFault, Job, ReplaySummary, steps_of};
 pub use replay_model::{Divergence, Field, Misfit};
 pub use rv_machine::{Follower, Load, Store};
 pub use saved::{CursorState, Rest};
-pub use watcher::{Nobody, Position, Watcher};
+pub use watcher::{Nobody, Position, RunWatcher, Watcher};
