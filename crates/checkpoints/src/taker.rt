@@ -15,7 +15,7 @@ use crate::touched::{Span, Touched, stored, written};
 use epoch_cut::Cuts;
 use flow_model::StepSeen;
 use no_memory::NoMemory;
-use replayer::{Follower, Instr, Job, Load, PlainStep, Position, Store, Watcher};
+use replayer::{Follower, Instr, Job, Load, PlainStep, Position, RunWatcher, Store, Watcher};
 use std::alloc::Global;
 use std::marker::Model;
 
@@ -149,6 +149,17 @@ impl Watcher for CheckpointTaker {
         self.next.saturating_sub(1)
     }
 
+    #[inline(always)]
+    fn plain(&mut self, _time: u64, step: PlainStep, after: &Position<'_, '_>) {
+        self.note(stored(step.instr, step.place), after);
+    }
+
+    fn step(&mut self, step: &StepSeen, after: &Position<'_, '_>) {
+        self.note(written(step), after);
+    }
+}
+
+impl RunWatcher for CheckpointTaker {
     fn begin(&mut self, at: &Position<'_, '_>) {
         self.next = 0;
         self.taken = Taken::none(self.alloc);
@@ -160,14 +171,5 @@ impl Watcher for CheckpointTaker {
             }
             Err(no_memory) => self.fault = Some(no_memory),
         }
-    }
-
-    #[inline(always)]
-    fn plain(&mut self, _time: u64, step: PlainStep, after: &Position<'_, '_>) {
-        self.note(stored(step.instr, step.place), after);
-    }
-
-    fn step(&mut self, step: &StepSeen, after: &Position<'_, '_>) {
-        self.note(written(step), after);
     }
 }

@@ -16,7 +16,7 @@ use flow_model::StepSeen;
 use log_model::RunEnd;
 use no_memory::NoMemory;
 use query_lang::Query;
-use replayer::{Follower, Instr, Load, PlainStep, Position, Store, Watcher};
+use replayer::{Follower, Instr, Load, PlainStep, Position, RunWatcher, Store, Watcher};
 use std::alloc::Global;
 use std::marker::Model;
 
@@ -165,10 +165,6 @@ impl<'q> Watcher for DecisionWatching<'q> {
         0
     }
 
-    fn begin(&mut self, at: &Position<'_, '_>) {
-        self.stand(at);
-    }
-
     #[inline(always)]
     fn plain(&mut self, time: u64, step: PlainStep, after: &Position<'_, '_>) {
         let PlainStep { instr, place } = step;
@@ -183,5 +179,11 @@ impl<'q> Watcher for DecisionWatching<'q> {
 
     fn step(&mut self, step: &StepSeen, after: &Position<'_, '_>) {
         self.follow(step, after);
+    }
+}
+
+impl<'q> RunWatcher for DecisionWatching<'q> {
+    fn begin(&mut self, at: &Position<'_, '_>) {
+        self.stand(at);
     }
 }

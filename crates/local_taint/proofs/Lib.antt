@@ -1,3 +1,4 @@
 mod Terms
 pub mod Range
 mod InARow
+mod Tracked

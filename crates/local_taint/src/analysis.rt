@@ -60,7 +60,7 @@ pub fn analyse_from(
 }
 
 /// The summary of the epoch of this number, of what was tracked of all its steps.
-fn summarize(number: u32, tracked: Tracked<Nodes>) -> Summary
+pub(crate) fn summarize(number: u32, tracked: Tracked<Nodes>) -> Summary
     requires standing { AreStanding node_words tracked.labels tracked.places }
     requires labelled { AreLabelled node_words tracked.labels tracked.sinks.items }
     ensures number { number_of result ≡ number }

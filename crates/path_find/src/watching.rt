@@ -17,7 +17,7 @@ use crate::sinks::{sink_at_end, sink_in};
 use crate::trail::Trail;
 use flow_model::{Rule, SinkPoint, StepSeen};
 use no_memory::NoMemory;
-use replayer::{Follower, Instr, Job, Load, PlainStep, Position, Store, Watcher};
+use replayer::{Follower, Instr, Job, Load, PlainStep, Position, RunWatcher, Store, Watcher};
 use std::alloc::Global;
 use std::marker::Model;
 
@@ -200,8 +200,6 @@ impl Watcher for PathWatching {
         0
     }
 
-    fn begin(&mut self, _at: &Position<'_, '_>) {}
-
     #[inline(always)]
     fn plain(&mut self, time: u64, step: PlainStep, _after: &Position<'_, '_>) {
         let PlainStep { instr, place } = step;
@@ -217,4 +215,8 @@ impl Watcher for PathWatching {
     fn step(&mut self, step: &StepSeen, _after: &Position<'_, '_>) {
         self.follow(step);
     }
+}
+
+impl RunWatcher for PathWatching {
+    fn begin(&mut self, _at: &Position<'_, '_>) {}
 }

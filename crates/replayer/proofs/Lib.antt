@@ -6,6 +6,7 @@ mod PlainSteps
 mod Passing
 mod Standing
 mod Watching
+mod Parts
 mod Stretches
 mod Stepping
 mod InARow

@@ -1,5 +1,5 @@
 -- A check, step after step.
-use Rattle.std.proofs.Common.{◌≡◌, ℕ, suc, ◌+◌, ◌<◌, ◌≤◌, ◌⊎◌, inl, inr, Bool, false, Some, None, arith, ap, ap₂, sym, ◌∙◌, subst}
+use Rattle.std.proofs.Common.{◌≡◌, ℕ, suc, ◌+◌, ◌<◌, ◌≤◌, ◌⊎◌, inl, inr, false, Some, None, arith, ap, ap₂, sym, ◌∙◌, subst}
 use Rattle.std.proofs.lemmas.Bool.{cases_lt}
 use Rattle.isa.specs.Machine.{State}
 use Rattle.log_model.specs.Logs.{Log, end_at}
@@ -20,15 +20,6 @@ pub record IsChecking (log : Log) (s : State) (i : ℕ) (run : RunAt) : Type 0 w
   pub here : run.moment ≡ moment_after i (start s log)
   pub time : run.moment.time ≡ i
   pub none_before : (k : ℕ) → k < i → difference_after k s log ≡ None
-
-pub checking_start : (log : Log) (s : State) (waits : Bool) (run : RunAt) → run ≡ record { log = log; moment = start s log; waits = waits } → waits ≡ false → IsChecking log s 0 run
-checking_start log s waits run e goes_on = record {
-  same_log = ap (λ (r : RunAt). r.log) e;
-  goes_on = ap (λ (r : RunAt). r.waits) e ∙ goes_on;
-  here = ap (λ (r : RunAt). r.moment) e;
-  time = ap (λ (r : RunAt). r.moment.time) e;
-  none_before = λ k h. absurd (omega arith);
-}
 
 module _ (log : Log) (s : State) (i : ℕ) (run : RunAt) (c : IsChecking log s i run) where
   end_is : end_at run.log.end ≡ end_at log.end

@@ -1,17 +1,16 @@
 -- Steps that are checked one after another.
-use Rattle.std.proofs.Common.{◌≡◌, ℕ, zero, suc, ◌+◌, ◌<◌, ◌≤◌, Bool, false, List, [], ◌∷◌, refl, arith, ap, sym, ◌∙◌, subst}
+use Rattle.std.proofs.Common.{◌≡◌, ℕ, zero, suc, ◌+◌, ◌<◌, false, List, [], ◌∷◌, refl, arith, ap, sym, ◌∙◌, subst}
 use Rattle.isa.specs.Machine.{State}
 use Rattle.log_model.specs.declared.CallRecord.{CallRecord}
 use Rattle.log_model.specs.declared.RunEnd.{RunEnd}
-use Rattle.log_model.specs.Logs.{Log, end_at}
-use Rattle.replay_model.specs.Run.{start}
+use Rattle.log_model.specs.Logs.{Log}
 use Rattle.replay_model.specs.Comparison.{PlainStep, expected}
 use Rattle.replay_model.proofs.Agreement.{expects_plain_at_end, expects_plain_before}
 use Rattle.replay_model.proofs.Track.{step_time}
 use Rattle.replay_run.specs.Runs.{RunAt}
 use Rattle.replay_run.specs.Expects.{event_time}
 use Rattle.replayer.specs.CheckedSteps.{IsAdvanced, Advances, IsPassed, TookNoRecord}
-use Rattle.replayer.proofs.Loops.{IsChecking, checking_start, checking_more}
+use Rattle.replayer.proofs.Loops.{IsChecking, checking_more}
 
 -- before the next call or the end a plain step is due
 pub plain_before : (t : ℕ) (left : List CallRecord) (end : RunEnd) → t < event_time left end → expected t left end ≡ PlainStep
@@ -68,40 +67,3 @@ module _ (log : Log) (s : State) where
   checking_passed (suc n) i run after c (between, steps, made) =
       let next : (i + n) + 1 ≡ i + suc n = omega arith in
       subst (λ (k : ℕ). IsChecking log s k after) next (checking_more log s (i + n) between (checking_passed n i run between c steps) after made)
-
-  within : (n i : ℕ) (run after : RunAt) → IsChecking log s i run → i ≤ end_at log.end → Advances n run after → i + n ≤ end_at log.end
-  within zero i run after c h e = omega arith
-  within (suc n) i run after c h (between, steps, made) =
-      let there = checking_passed n i run between c steps in
-      let time = there.time in
-      let early = made.early in
-      let end : end_at between.log.end ≡ end_at log.end = ap (λ (l : Log). end_at l.end) there.same_log in
-      omega arith
-
-  -- at least so many events are passed, and the run isn't beyond its end
-  pub record IsBeyond (event : ℕ) (run : RunAt) : Type 0 where
-    pub done : ℕ
-    pub checking : IsChecking log s done run
-    pub events : event ≤ done
-    pub within : done ≤ end_at log.end
-
-  pub beyond_start : (waits : Bool) (run : RunAt) → run ≡ record { log = log; moment = start s log; waits = waits } → waits ≡ false → IsBeyond 0 run
-  beyond_start waits run e goes_on = record { done = 0; checking = checking_start log s waits run e goes_on; events = omega arith; within = omega arith }
-
-  pub beyond_passed : (event : ℕ) (run after : RunAt) → IsBeyond event run → IsPassed run after → IsBeyond event after
-  beyond_passed event run after b p =
-      let events = b.events in
-      record {
-        done = b.done + p.count;
-        checking = checking_passed p.count b.done run after b.checking p.steps;
-        events = omega arith;
-        within = within p.count b.done run after b.checking b.within p.steps;
-      }
-
-  pub beyond_more : (event : ℕ) (run after : RunAt) → IsBeyond event run → IsAdvanced run after → IsBeyond (event + 1) after
-  beyond_more event run after b made =
-      let events = b.events in
-      let time = b.checking.time in
-      let early = made.early in
-      let end : end_at run.log.end ≡ end_at log.end = ap (λ (l : Log). end_at l.end) b.checking.same_log in
-      record { done = b.done + 1; checking = checking_more log s b.done run b.checking after made; events = omega arith; within = omega arith }

@@ -1,5 +1,5 @@
 -- One who was told of plain steps in a row. Crates above cite this lemma.
-use Rattle.std.proofs.Common.{ℕ, suc, ◌≤◌, arith}
+use Rattle.std.proofs.Common.{ℕ, ◌≤◌, arith}
 use Rattle.rv_machine.specs.Running.{Tells, Wants}
 use Rattle.replayer.specs.Jobs.{Job}
 use Rattle.replayer.specs.Told.{AreTold, NoneYet, OneMore}

@@ -1,11 +1,9 @@
 -- A watcher that is told of one step after another.
-use Rattle.std.proofs.Common.{◌≡◌, ℕ, zero, suc, ◌+◌, ◌-◌, ◌<◌, ◌≤◌, refl, Some, arith, ap, sym, ◌∙◌, subst}
-use Rattle.isa.specs.Machine.{State}
-use Rattle.log_model.specs.Logs.{Log, end_at, steps}
-use Rattle.log_model.proofs.Ends.{end_at-le-steps_by}
+use Rattle.std.proofs.Common.{◌≡◌, ℕ, zero, suc, ◌+◌, ◌-◌, ◌<◌, refl, Some, arith, ap, sym, ◌∙◌, subst}
+use Rattle.log_model.specs.Logs.{steps}
 use Rattle.flow_model.specs.declared.StepSeen.{StepSeen}
 use Rattle.flow_model.specs.Origins.{step_at}
-use Rattle.replay_model.specs.Run.{Moment, start, advance, moment_after}
+use Rattle.replay_model.specs.Run.{Moment, advance}
 use Rattle.replay_model.proofs.Track.{step_time}
 use Rattle.replay_model.proofs.Offsets.{moment_later}
 use Rattle.rv_machine.specs.Hart.{Hart, IsStep}
@@ -16,8 +14,7 @@ use Rattle.replayer.specs.CheckedSteps.{IsAdvanced, Advances}
 use Rattle.replayer.specs.Jobs.{Job, trace_of}
 use Rattle.replayer.specs.Cursors.{Stands}
 use Rattle.replayer.specs.Watching.{Seen, IsMadeOf, IsToldOf, IsTold, ArePassed}
-use Rattle.replayer.proofs.Loops.{IsChecking}
-use Rattle.replayer.proofs.Passing.{IsBeyond, passed_then, beyond_passed, beyond_more}
+use Rattle.replayer.proofs.Passing.{passed_then}
 use Rattle.replayer.proofs.Standing.{IsMoved, moved_by_one, stands_later, step_here}
 
 -- ---- where a run stands after some steps of a check
@@ -68,7 +65,7 @@ module _ {W : Type 0} (seen : Seen W) where
   told_none run n w none was job stands within before = let same : run.moment.time ≡ run.moment.time + n = omega arith in subst (seen was w job) same before
 
   -- some steps, and then more
-  told_then : (before between : RunAt) (n m : ℕ) (old so_far new : W) → IsMoved before n between → IsTold seen before n old so_far → IsTold seen between m so_far new → IsTold seen before (n + m) old new
+  pub told_then : (before between : RunAt) (n m : ℕ) (old so_far new : W) → IsMoved before n between → IsTold seen before n old so_far → IsTold seen between m so_far new → IsTold seen before (n + m) old new
   told_then before between n m old so_far new there first second was job stands within begun =
       let time = there.time in
       let now : before.moment.time + n ≡ between.moment.time = omega arith in
@@ -107,59 +104,3 @@ module _ {W : Type 0} (seen : Seen W) where
             (told_then before between first.passed.count second.passed.count old so_far new there
             (subst (λ (k : ℕ). IsTold seen before k old so_far) n first.told) (subst (λ (k : ℕ). IsTold seen between k so_far new) m second.told));
       }
-
-  -- ---- the whole check
-
-  module _ (log : Log) (s : State) (begun : W) where
-    abbrev job : Job
-    job = record { start = s; log = log }
-
-    pub record IsSeen (event : ℕ) (run : RunAt) (w : W) : Type 0 where
-      pub beyond : IsBeyond log s event run
-      pub told : seen begun w job run.moment.time
-
-    pub stands_there : (i : ℕ) (run : RunAt) → IsChecking log s i run → i ≤ steps log → Stands job run
-    stands_there i run c within =
-        let time = c.time in
-        record { same_log = c.same_log; within = omega arith; here = c.here ∙ ap (λ (k : ℕ). moment_after k (start s log)) (sym time) }
-
-    module _ (event : ℕ) (run : RunAt) (w : W) (so_far : IsSeen event run w) where
-      -- what was told of the next steps
-      more : (n : ℕ) (new : W) → so_far.beyond.done + n ≤ steps log → IsTold seen run n w new → seen begun new job (run.moment.time + n)
-      more n new within told =
-          let time = so_far.beyond.checking.time in
-          told begun job (stands_there so_far.beyond.done run so_far.beyond.checking (omega arith)) (omega arith) so_far.told
-
-      pub seen_passed : (after : RunAt) (new : W) → ArePassed seen run w after new → IsSeen event after new
-      seen_passed after new p =
-          let b = beyond_passed log s event run after so_far.beyond p.passed in
-          let there = moved p.passed.count run after p.passed.steps in
-          let at = b.checking.time in
-          let within = b.within in
-          let now = so_far.beyond.checking.time in
-          let later = there.time in
-          let n = after.moment.time - run.moment.time in
-          let next : run.moment.time + n ≡ after.moment.time = omega arith in
-          record { beyond = b; told = subst (seen begun new job) next (more n new (omega (arith, end_at-le-steps_by log.end)) p.told) }
-
-      pub seen_advanced : (after : RunAt) (new : W) → IsAdvanced run after → IsTold seen run 1 w new → IsSeen (event + 1) after new
-      seen_advanced after new made told =
-          let there = moved (suc zero) run after (run, refl, made) in
-          let later = there.time in
-          let now = so_far.beyond.checking.time in
-          let early = made.early in
-          let end : end_at run.log.end ≡ end_at log.end = ap (λ (l : Log). end_at l.end) so_far.beyond.checking.same_log in
-          let next : run.moment.time + 1 ≡ after.moment.time = omega arith in
-          record {
-            beyond = beyond_more log s event run after so_far.beyond made;
-            told = subst (seen begun new job) next (more 1 new (omega (arith, end_at-le-steps_by log.end)) told);
-          }
-
-      pub seen_whole : (new : W) → IsTold seen run (steps run.log - run.moment.time) w new → seen begun new job (steps log)
-      seen_whole new told =
-          let now = so_far.beyond.checking.time in
-          let within = so_far.beyond.within in
-          let all : steps run.log ≡ steps log = ap steps so_far.beyond.checking.same_log in
-          let least = end_at-le-steps_by log.end in
-          let next : run.moment.time + (steps run.log - run.moment.time) ≡ steps log = omega arith in
-          subst (seen begun new job) next (more (steps run.log - run.moment.time) new (omega arith) told)

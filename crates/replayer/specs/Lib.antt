@@ -9,3 +9,4 @@ pub mod CheckedSteps
 pub mod Watching
 pub mod Checks
 pub mod Saved
+pub mod InParts

@@ -13,7 +13,7 @@ use Rattle.replayer.specs.declared.check.Checked.TheVariants.{Advanced, Ended}
 use Rattle.replayer.specs.Jobs.{Job, trace_of}
 use Rattle.replayer.specs.Cursors.{Stands}
 use Rattle.replayer.specs.Nexts.{seen_at}
-use Rattle.replayer.specs.CheckedSteps.{IsPassed, DiffersLater}
+use Rattle.replayer.specs.CheckedSteps.{IsPassed, IsEnded, IsDifferent, DiffersLater}
 
 -- what a watcher that was the first, and is the second, has seen of a job: so many steps
 abbrev pub Seen : Type 0 → Type 1
@@ -71,3 +71,8 @@ abbrev pub IsStepTold : {W : Type 0} → Seen W → RunAt → W → Result Check
 IsStepTold seen before old (Ok Advanced) new = IsTold seen before 1 old new
 IsStepTold seen before old (Ok Ended) new = IsTold seen before (steps before.log - before.moment.time) old new
 IsStepTold seen before old (Err d) new = Unit {0}
+
+-- at the time of the log's end nothing differs, and the watcher was told of the steps that are left; or this differs there
+abbrev pub IsEndChecked : {W T : Type 0} → Seen W → RunAt → W → Result T Divergence → W → Type 0
+IsEndChecked seen before old (Ok done) new = IsEnded before × IsTold seen before (steps before.log - before.moment.time) old new
+IsEndChecked seen before old (Err d) new = IsDifferent before d

@@ -1,8 +1,8 @@
-//! Where a log first differs from the run of its program.
+//! A log compared with the run of its program, a step or a stretch at a time.
 
-ghost use Rattle.std.specs.Prelude.{◌≡◌, ◌≤◌, IfOk, OnOk, None, false};
-ghost use Rattle.log_model.specs.Logs.{end_at, steps};
-ghost use Rattle.replay_model.specs.Comparison.{divergence, expected};
+ghost use Rattle.std.specs.Prelude.{◌≡◌, ◌≤◌, max, IfOk, OnOk, None, false};
+ghost use Rattle.log_model.specs.Logs.{end_at};
+ghost use Rattle.replay_model.specs.Comparison.{expected};
 ghost use Rattle.replay_model.specs.Comparison as model;
 ghost use Rattle.rv_machine.specs.Hart.{IsStep};
 ghost use Rattle.replay_run.specs.Expects.{expected_of, event_time};
@@ -10,16 +10,15 @@ ghost use Rattle.replay_run.specs.Runs.{hart_of, with_hart};
 ghost use Rattle.replayer.specs.Differences.{IsFirst};
 ghost use Rattle.replayer.specs.Comparisons.{IsFormed, compares};
 ghost use Rattle.replayer.specs.CheckedSteps.{IsStepChecked, IsPlainStepChecked, TookNoRecord};
-ghost use Rattle.replayer.specs.Watching.{IsTold, ArePassed, AreWatched, IsStepTold};
+ghost use Rattle.replayer.specs.Watching.{IsTold, ArePassed, AreWatched, IsStepTold, IsEndChecked};
 
 use crate::compare::{compare, event_in_place_of_a_step, is_limit, is_trap, kept_code, seen_code};
 use crate::cursor::PlainStep;
 use crate::difference::{Difference, compare_words};
 use crate::watcher::{Position, Watcher};
-use replay_log::Log;
 use replay_model::{Divergence, Field};
-use replay_run::{Expected, Run, time_of_end};
-use rv_machine::{Machine, Stepped};
+use replay_run::{Expected, Run};
+use rv_machine::Stepped;
 
 /// How the check of one step went, where nothing differs.
 #[derive(Clone, Copy)]
@@ -64,31 +63,39 @@ fn check_plain_step<W: Watcher>(run: &mut Run<'_>, watcher: &mut W) -> Result<()
     }
 }
 
-/// Makes plain steps in a row, before the time at which the log has a call or its end next, while it is enough that the watcher
-/// is told of them as a follower. It may make none, as before a step that the log doesn't have so.
-fn make_quiet_steps<W: Watcher>(run: &mut Run<'_>, watcher: &mut W, event: u64)
+/// Makes plain steps in a row, up to a time before which the log has no call and no end, while it is enough that the watcher is
+/// told of them as a follower. It may make none, as before a step that the log doesn't have so.
+fn make_quiet_steps<W: Watcher>(run: &mut Run<'_>, watcher: &mut W, until: u64)
     requires goes_on { run.old.waits ≡ false }
-    requires event { event ≡ event_time run.old.moment.left run.old.log.end }
+    requires until { until ≤ event_time run.old.moment.left run.old.log.end }
     ensures watched { ArePassed W.seen run.old watcher.old run.new watcher.new }
     ensures still { TookNoRecord run.old run.new }
+    ensures within { run.new.moment.time ≤ max until run.old.moment.time }
 {
     run.form();
     let time = run.time();
-    let until = event.min(watcher.quiet_until());
+    let until = until.min(watcher.quiet_until());
     if time < until {
         run.run_plain(until - time, watcher);
     }
 }
 
-/// Makes the plain steps that the log has before its next call, or before its end, and tells the watcher of them.
-fn check_plain_steps<W: Watcher>(run: &mut Run<'_>, watcher: &mut W) -> Result<(), Divergence>
+/// Makes the plain steps that the log has before its next call, before its end and before a time, and tells the watcher of
+/// them.
+fn check_plain_steps<W: Watcher>(
+    run: &mut Run<'_>,
+    watcher: &mut W,
+    until: u64,
+) -> Result<(), Divergence>
     requires goes_on { run.old.waits ≡ false }
-    ensures { AreWatched W.seen run.old watcher.old result run.new watcher.new }
+    ensures watched { AreWatched W.seen run.old watcher.old result run.new watcher.new }
+    ensures goes_on { OnOk result (run.new.waits ≡ false) }
+    ensures within { OnOk result (run.new.moment.time ≤ max until run.old.moment.time) }
 {
-    let event = run.event_time();
-    while run.time() < event {
-        make_quiet_steps(run, watcher, event);
-        if run.time() >= event {
+    let until = run.event_time().min(until);
+    while run.time() < until {
+        make_quiet_steps(run, watcher, until);
+        if run.time() >= until {
             return Ok(());
         }
         check_plain_step(run, watcher)?;
@@ -126,31 +133,42 @@ fn check_step<W: Watcher>(run: &mut Run<'_>, watcher: &mut W) -> Result<Checked,
     }
 }
 
-/// The first difference between a log and a machine's run under it, up to the log's end. The watcher is told of each step
-/// before it: where nothing differs, of the whole run.
-pub(crate) fn first_divergence<W: Watcher>(
-    machine: Machine,
-    log: &Log,
+/// Checks steps up to a time, at most that of the log's end, and tells the watcher of them; or says where the log differs
+/// before.
+pub(crate) fn check_to<W: Watcher>(
+    run: &mut Run<'_>,
     watcher: &mut W,
-) -> Option<Divergence>
-    requires { machine.waits ≡ false }
-    ensures first { result ≡ divergence machine.state log.now }
-    ensures seen { result ≡ None
-        → W.seen watcher.old watcher.new (record { start = machine.state; log = log.now }) (steps log.now) }
+    until: u64,
+) -> Result<(), Divergence>
+    requires goes_on { run.old.waits ≡ false }
+    requires within { until ≤ end_at run.old.log.end }
+    ensures watched { AreWatched W.seen run.old watcher.old result run.new watcher.new }
+    ensures goes_on { OnOk result (run.new.waits ≡ false) }
+    ensures there { OnOk result (run.new.moment.time ≡ max until run.old.moment.time) }
 {
-    let last = time_of_end(log.end());
-    let mut run = Run::start(machine, log);
-    watcher.begin(&Position { run: &run });
-    for event in 0..last + 1 {
-        match check_plain_steps(&mut run, watcher) {
-            Ok(()) => {}
-            Err(divergence) => return Some(divergence),
-        }
-        match check_step(&mut run, watcher) {
-            Ok(Checked::Advanced) => {}
-            Ok(Checked::Ended) => return None,
-            Err(divergence) => return Some(divergence),
+    while run.time() < until {
+        check_plain_steps(run, watcher, until)?;
+        if run.time() < until {
+            match check_step(run, watcher) {
+                Ok(Checked::Advanced) => {}
+                Ok(Checked::Ended) => unreachable!(),
+                Err(divergence) => return Err(divergence),
+            }
         }
     }
-    None
+    Ok(())
+}
+
+/// Checks what the log has at the time of its end, where the run stands, and tells the watcher of the exit call, if the run
+/// ends by one.
+pub(crate) fn check_end<W: Watcher>(run: &mut Run<'_>, watcher: &mut W) -> Result<(), Divergence>
+    requires goes_on { run.old.waits ≡ false }
+    requires there { run.old.moment.time ≡ end_at run.old.log.end }
+    ensures { IsEndChecked W.seen run.old watcher.old result watcher.new }
+{
+    match check_step(run, watcher) {
+        Ok(Checked::Advanced) => unreachable!(),
+        Ok(Checked::Ended) => Ok(()),
+        Err(divergence) => Err(divergence),
+    }
 }

@@ -12,15 +12,14 @@ ghost use Rattle.no_memory.specs.Faults.{IsCausedBy};
 ghost use Rattle.replayer.specs.Jobs.{IsJob, begun};
 ghost use Rattle.replayer.specs.Checks.{IsChecked, IsMisfit};
 
-use crate::check::first_divergence;
-use crate::watcher::{Nobody, Watcher};
+use crate::checker::{Checker, first_divergence};
+use crate::watcher::{Nobody, RunWatcher};
 use elf_image::Image;
 use log_model::{CallRecord, RunEnd};
 use no_memory::{Fault, NoMemory};
 use replay_log::Log;
 use replay_model::Misfit;
 use rv_machine::Machine;
-use sha2::{Digest, Sha256};
 use std::alloc::Global;
 use std::marker::Model;
 
@@ -110,7 +109,7 @@ impl Job {
 
     /// The same as [`Job::check`], with a watcher that is told of each step of the run as it is checked. Where the log fits, it
     /// has seen all steps of the job; else what it saw is of no use.
-    pub fn check_watched<W: Watcher>(
+    pub fn check_watched<W: RunWatcher>(
         alloc: Global,
         program: &[u8],
         image: Image,
@@ -123,20 +122,12 @@ impl Job {
         ensures fault { IfErr result (IsCausedBy (IsMisfit program.now image log)) }
     {
         log.form();
-        let kept = log.digest();
-        let seen = Sha256::digest(program);
-        if kept != seen {
-            return Err(Fault::At(Misfit::WrongProgram { kept, seen }));
-        }
-        let machine = match Machine::new(alloc, &image, log.pages()) {
-            Ok(machine) => machine,
-            Err(Fault::At(window)) => return Err(Fault::At(Misfit::Window(window))),
-            Err(Fault::NoMemory(no_memory)) => return Err(Fault::NoMemory(no_memory)),
-        };
         let _size = log.size();
-        match first_divergence(machine, &log, watcher) {
-            Some(divergence) => Err(Fault::At(Misfit::Diverged(divergence))),
-            None => Ok(Job { image, log }),
+        let checker = Checker::open(alloc, program, &image, &log)?;
+        checker.begin(watcher);
+        match checker.finish(watcher) {
+            Ok(()) => Ok(Job { image, log }),
+            Err(divergence) => Err(Fault::At(Misfit::Diverged(divergence))),
         }
     }
 
@@ -149,7 +140,7 @@ impl Job {
 
     /// Replays the run once more, and tells the watcher of each step of it, as [`Job::check_watched`] does. It gives up with
     /// NoMemory alone, where there is none for the window.
-    pub fn watch<W: Watcher>(&self, alloc: Global, watcher: &mut W) -> Result<(), NoMemory>
+    pub fn watch<W: RunWatcher>(&self, alloc: Global, watcher: &mut W) -> Result<(), NoMemory>
         ensures { OnOk result (W.seen watcher.old watcher.new self.now (steps self.now.log)) }
     {
         self.form();

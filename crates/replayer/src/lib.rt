@@ -11,6 +11,7 @@
 #![tactic(auto)]
 
 mod check;
+mod checker;
 mod compare;
 mod cursor;
 mod difference;
@@ -18,6 +19,7 @@ mod job;
 mod saved;
 mod watcher;
 
+pub use checker::Checker;
 pub use cursor::{Cursor, Next, PlainStep};
 pub use flow_model::{CallSeen, StepSeen};
 pub use isa::Instr;
@@ -25,4 +27,4 @@ pub use job::{CheckFault, Job, ReplaySummary, steps_of};
 pub use replay_model::{Divergence, Field, Misfit};
 pub use rv_machine::{Follower, Load, Store};
 pub use saved::{CursorState, Rest};
-pub use watcher::{Nobody, Position, Watcher};
+pub use watcher::{Nobody, Position, RunWatcher, Watcher};

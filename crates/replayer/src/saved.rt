@@ -21,8 +21,8 @@ use std::marker::Model;
 /// All that a cursor is but its job: its machine, the place in the log and the channels' offsets.
 #[derive(Drop)]
 pub struct CursorState {
-    machine: MachineState,
-    counters: Counters,
+    pub(crate) machine: MachineState,
+    pub(crate) counters: Counters,
 }
 
 impl Model for CursorState {

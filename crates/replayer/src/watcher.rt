@@ -47,10 +47,6 @@ pub trait Watcher: Follower {
     fn quiet_until(&self) -> u64
         ensures { result ≡ quiet self.now };
 
-    /// The run stands at its beginning.
-    fn begin(&mut self, at: &Position<'_, '_>)
-        ensures { IsBegun seen at.now self.old self.new };
-
     /// After so many steps the run made this one, which is no call, and stands here now.
     fn plain(&mut self, time: u64, step: PlainStep, after: &Position<'_, '_>)
         requires { Fits step.instr }
@@ -63,6 +59,13 @@ pub trait Watcher: Follower {
 
     /// Being told as a follower of a plain step that ends at or before the quiet time is as good as [`Watcher::plain`].
     ghost enough: { IsEnough Self.told seen quiet };
+}
+
+/// A watcher of whole runs, which may be told that one begins.
+pub trait RunWatcher: Watcher {
+    /// The run stands at its beginning.
+    fn begin(&mut self, at: &Position<'_, '_>)
+        ensures { IsBegun Self.seen at.now self.old self.new };
 }
 
 /// A watcher that does nothing.
@@ -110,11 +113,13 @@ impl Watcher for Nobody {
     }
 
     #[inline(always)]
-    fn begin(&mut self, _at: &Position<'_, '_>) {}
-
-    #[inline(always)]
     fn plain(&mut self, _time: u64, _step: PlainStep, _after: &Position<'_, '_>) {}
 
     #[inline(always)]
     fn step(&mut self, _step: &StepSeen, _after: &Position<'_, '_>) {}
+}
+
+impl RunWatcher for Nobody {
+    #[inline(always)]
+    fn begin(&mut self, _at: &Position<'_, '_>) {}
 }

@@ -3,18 +3,19 @@
 ghost use Rattle.std.specs.Prelude.{◌≤◌};
 
 use crate::guests::{
-    CALL_AND_EXIT, COPY_FOUR, COPY_IN_TWO, CUT_OFF, Runtime, TRAP, copy_many, job_of,
+    CALL_AND_EXIT, COPY_FOUR, COPY_IN_TWO, CUT_OFF, Recorded, Runtime, TRAP, copy_many, job_of,
+    unchecked,
 };
 use answer_sets::{Answers, rows};
 use checkpoints::Checkpoints;
-use epoch_cut::cuts;
 use epoch_cut::laws::cut_times_are_cutting;
+use epoch_cut::{EpochTicket, cuts};
 use epoch_summary::{Asked, Summary, TermsAhead};
 use flow_model::{Loc, SinkByte, SinkPoint, SourceByte};
-use local_taint::analyse;
+use local_taint::{analyse, analyse_last};
 use merge_log::TermsReader;
 use query_lang::{Query, parse};
-use replayer::{Cursor, Job, Next};
+use replayer::{Checker, Cursor, Job, Next, steps_of};
 use seq_taint::sequential;
 use sink_collect::SinkSet;
 use source_runs::SourceRun;
@@ -112,14 +113,36 @@ fn an_epoch_is_analysed_by_itself(rt: HostRuntime) {
     assert_summary(&rt, &summary);
 }
 
+/// The ticket of the one epoch of a run that has so many steps.
+fn ticket_of(rt: &impl Runtime, steps: u64) -> EpochTicket {
+    let cuts = cuts(steps, steps.max(1)).expect(rt, "few epochs");
+    let mut tickets = cuts.tickets(rt.alloc()).expect(rt, "memory");
+    match tickets.pop() {
+        Some(ticket) => ticket,
+        None => rt.abort(),
+    }
+}
+
+/// The same summary where the epoch is analysed while the log is checked.
+#[test]
+fn an_epoch_is_analysed_while_it_is_checked(rt: HostRuntime) {
+    let alloc = rt.alloc();
+    let query = parse(alloc, b"rule copy\nsource all\nsink all\n").expect(&rt, "a query");
+    let Recorded { program, log } = unchecked(&rt, &COPY_FOUR);
+    let ticket = ticket_of(&rt, steps_of(&log));
+    if ticket.first() != 0 || ticket.past_last() != steps_of(&log) {
+        rt.abort()
+    }
+    let opened = Checker::open(alloc, &program.bytes, &program.image, &log);
+    let checker = opened.expect(&rt, "a log of the program");
+    let summary = analyse_last(alloc, ticket, checker, &query).expect(&rt, "a log that fits");
+    assert_summary(&rt, &summary);
+}
+
 /// The summary of a run with one epoch, which the analysis of that epoch finds.
 fn analysed(rt: &impl Runtime, job: &Job, query: &Query) -> Summary {
     let alloc = rt.alloc();
-    let cuts = cuts(job.steps(), job.steps().max(1)).expect(rt, "few epochs");
-    let mut tickets = cuts.tickets(alloc).expect(rt, "memory");
-    let Some(ticket) = tickets.pop() else {
-        rt.abort()
-    };
+    let ticket = ticket_of(rt, job.steps());
     if ticket.first() != 0 || ticket.past_last() > job.steps() {
         rt.abort()
     }

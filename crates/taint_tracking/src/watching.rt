@@ -10,7 +10,7 @@ ghost use Rattle.taint_tracking.specs.Watched.{IsOfSteps, HasBegun, Finds, Track
 use crate::tracking::{Tracked, Tracking};
 use no_memory::NoMemory;
 use query_lang::Query;
-use replayer::{Follower, Instr, Load, PlainStep, Position, StepSeen, Store, Watcher};
+use replayer::{Follower, Instr, Load, PlainStep, Position, RunWatcher, StepSeen, Store, Watcher};
 use std::alloc::Global;
 use std::marker::Model;
 use taint_shadow::Labels;
@@ -143,9 +143,6 @@ impl<'q, L: Labels + Drop> Watcher for Watching<'q, L> {
     }
 
     #[inline(always)]
-    fn begin(&mut self, _at: &Position<'_, '_>) {}
-
-    #[inline(always)]
     fn plain(&mut self, time: u64, step: PlainStep, _at: &Position<'_, '_>) {
         let PlainStep { instr, place } = step;
         self.track(&StepSeen {
@@ -160,4 +157,9 @@ impl<'q, L: Labels + Drop> Watcher for Watching<'q, L> {
     fn step(&mut self, step: &StepSeen, _at: &Position<'_, '_>) {
         self.track(step);
     }
+}
+
+impl<'q, L: Labels + Drop> RunWatcher for Watching<'q, L> {
+    #[inline(always)]
+    fn begin(&mut self, _at: &Position<'_, '_>) {}
 }

@@ -1,4 +1,5 @@
-use Rattle.std.proofs.Common.{◌-◌}
+use Rattle.std.proofs.Common.{◌-◌, ◌≤◌}
+use Rattle.std.specs.Prelude.{max}
 use Rattle.replayer.specs.CheckedSteps.{TookNoRecord}
 use Rattle.replayer.specs.Watching.{ArePassed}
 use Rattle.replayer.proofs.check.check_plain_steps.Given as goal
@@ -7,7 +8,8 @@ abbrev pub invariant-loop-run : goal.invariant-loop-run
 invariant-loop-run g l = record {
   watched : ArePassed g.W.Watcher.seen l.fn.run l.fn.watcher l.run l.watcher;
   still : TookNoRecord l.fn.run l.run;
+  within : l.run.moment.time ≤ max l.until l.fn.run.moment.time;
 }
 
 abbrev pub decreases-loop-run : goal.decreases-loop-run
-decreases-loop-run g l = l.event - l.run.moment.time
+decreases-loop-run g l = l.until - l.run.moment.time

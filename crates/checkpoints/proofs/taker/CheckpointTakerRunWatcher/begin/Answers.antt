@@ -6,7 +6,7 @@ use Rattle.epoch_model.specs.Cutting.{IsCutting}
 use Rattle.checkpoints.specs.Taking.{TakerAt, IsTakenTo}
 use Rattle.checkpoints.proofs.Standing.{all_fit, all_set}
 use Rattle.checkpoints.proofs.Taking.{none_before}
-use Rattle.checkpoints.proofs.taker.CheckpointTakerWatcher.begin.Goals as goal
+use Rattle.checkpoints.proofs.taker.CheckpointTakerRunWatcher.begin.Goals as goal
 
 pub returns-in-Ok : goal.returns-in-Ok
 returns-in-Ok c job stands first =

@@ -2,7 +2,7 @@ use Rattle.std.proofs.Common.{ℕ, sym, subst}
 use Rattle.std.proofs.lemmas.Result.{IfOk-weaker}
 use Rattle.decision_find.specs.Following.{IsTracked}
 use Rattle.decision_find.specs.Watched.{IsSeenTo}
-use Rattle.decision_find.proofs.watching.DecisionWatchingWatcher.begin.Goals as goal
+use Rattle.decision_find.proofs.watching.DecisionWatchingRunWatcher.begin.Goals as goal
 
 pub returns : goal.returns
 returns c job stands first q begun is =
