@@ -58,15 +58,15 @@ module _ (keys slots more : List ℕ) (filled : AreFilled keys slots)
         let p = position_or_len (nat_eq (n / 64)) keys in
         let pushed = position_or_len_push (nat_eq (n / 64)) keys key in
         by (eqb p (length keys)) refl pushed where
-      by : (b : Bool) → eqb (position_or_len (nat_eq (n / 64)) keys) (length keys) ≡ b
-          → position_or_len (nat_eq (n / 64)) (keys ++ key ∷ []) ≡ cond b (length keys + cond (nat_eq (n / 64) key) 0 1) (position_or_len (nat_eq (n / 64)) keys)
-          → get_or more (slot_of (keys ++ key ∷ []) n) 0 ≡ get_or slots (slot_of keys n) 0
-      by true e is =
-          let none = eqb-true (position_or_len (nat_eq (n / 64)) keys) (length keys) e in
-          let before : 64 * length keys ≤ slot_of keys n = omega (arith, none) in
-          let after : 64 * length keys ≤ slot_of (keys ++ key ∷ []) n = omega (arith, is) in
-          alike (slot_of (keys ++ key ∷ []) n) ∙ filled.rest (slot_of (keys ++ key ∷ []) n) after ∙ sym (filled.rest (slot_of keys n) before)
-      by false e is = alike (slot_of (keys ++ key ∷ []) n) ∙ ap (λ (q : ℕ). get_or slots (64 * q + n % 64) 0) is
+          by : (b : Bool) → eqb (position_or_len (nat_eq (n / 64)) keys) (length keys) ≡ b
+              → position_or_len (nat_eq (n / 64)) (keys ++ key ∷ []) ≡ cond b (length keys + cond (nat_eq (n / 64) key) 0 1) (position_or_len (nat_eq (n / 64)) keys)
+              → get_or more (slot_of (keys ++ key ∷ []) n) 0 ≡ get_or slots (slot_of keys n) 0
+          by true e is =
+              let none = eqb-true (position_or_len (nat_eq (n / 64)) keys) (length keys) e in
+              let before : 64 * length keys ≤ slot_of keys n = omega (arith, none) in
+              let after : 64 * length keys ≤ slot_of (keys ++ key ∷ []) n = omega (arith, is) in
+              alike (slot_of (keys ++ key ∷ []) n) ∙ filled.rest (slot_of (keys ++ key ∷ []) n) after ∙ sym (filled.rest (slot_of keys n) before)
+          by false e is = alike (slot_of (keys ++ key ∷ []) n) ∙ ap (λ (q : ℕ). get_or slots (64 * q + n % 64) 0) is
 
   pub same_held : (n : ℕ) → get_or more (slot_of keys n) 0 ≡ get_or slots (slot_of keys n) 0
   same_held n = alike (slot_of keys n)

@@ -34,7 +34,8 @@ impl Model for Asked {
 
     ghost view = { λ asked. asked.locations.items };
 
-    ghost invariant = { λ asked. IsDistinct (eq_by_cmp loc_cmp) asked.locations.items × ArePlaced asked.locations.items asked.table };
+    ghost invariant = { λ asked. IsDistinct (eq_by_cmp loc_cmp) asked.locations.items
+        × ArePlaced asked.locations.items asked.table };
 }
 
 impl Asked {
@@ -89,7 +90,8 @@ impl Asked {
         }
     }
 
-    /// The same, where it most likely is this place: that is looked at first.
+    /// The same as [`Asked::place_of`], for a location that most likely stands at this place: it is looked at first. Any
+    /// number may be given.
     #[inline(always)]
     pub fn place_near(&self, loc: Loc, place: usize) -> Option<usize>
         ensures asked { is_some result ≡ has loc_cmp loc self.now }

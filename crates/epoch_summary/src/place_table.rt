@@ -1,4 +1,4 @@
-//! A number for each location, which is found by a look at its slot.
+//! A value for each location, which is found in the location's slot.
 
 ghost use Rattle.std.specs.Prelude.{◌≡◌, ◌<◌, ◌*◌, ◌^◌, ℕ, false, length, get_or, nat_eq, slice_set, IfOk};
 ghost use Rattle.std.specs.List.{list_any};
@@ -16,15 +16,16 @@ const SLOTS: usize = 64;
 /// The number of lane 0 of register 0; those of bytes of memory lie below it.
 const FIRST_LANE: u64 = 0x1_0000_0000;
 
-/// A block of slots, by its key, and the first of its slots.
+/// A block of slots: its key, and the first of its slots.
 #[derive(Clone, Copy)]
 struct Block {
     key: u32,
     first: usize,
 }
 
-/// A value for each number of a location: 0 until it is set. Neighbours in memory have slots in one block, and a block
-/// without a value takes no room.
+/// A value for each location, by its number: 0 until it is set. Bytes side by side in memory have slots side by side, in
+/// blocks of 64. A block is made as the first of its slots is looked for. The one that was found last is found again
+/// without a search.
 #[derive(Drop)]
 pub(crate) struct PlaceTable {
     // The keys of the blocks that were made: their numbers without the last 6 bits.
@@ -75,7 +76,7 @@ impl PlaceTable {
         }
     }
 
-    /// The slot of a number, which is made unless it is there. When out of memory no value changes either.
+    /// The slot of a number, which is made unless it is there. No value changes, also when out of memory.
     #[inline(always)]
     pub(crate) fn find(&mut self, number: u64) -> Result<usize, NoMemory>
         requires { number < 2 ^ 33 }
@@ -87,7 +88,7 @@ impl PlaceTable {
         Ok(first + (number % SLOTS as u64) as usize)
     }
 
-    /// The first slot of a block, which is made unless it is there. When out of memory no value changes either.
+    /// The first slot of a block, which is made unless it is there. No value changes, also when out of memory.
     #[inline(always)]
     fn find_block(&mut self, key: u32) -> Result<usize, NoMemory>
         ensures same { (n : ℕ) → held_at self.new n ≡ held_at self.old n }
@@ -114,7 +115,7 @@ impl PlaceTable {
         Ok(first)
     }
 
-    /// Makes a block that isn't there, and gives its index. When out of memory no value changes either.
+    /// Makes a block that isn't there, and gives its index. When out of memory no value changes.
     fn make_block(&mut self, key: u32) -> Result<usize, NoMemory>
         requires { list_any (nat_eq key) self.old.blocks.keys ≡ false }
         ensures same { (n : ℕ) → held_at self.new n ≡ held_at self.old n }

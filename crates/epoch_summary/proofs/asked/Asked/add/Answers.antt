@@ -40,11 +40,12 @@ invariant_of-self-2 c =
     let placed = placed_same s.locations.items s.table t c.find.ensures.same c.self.invariant.1 in
     let none = none_read t c.args.loc c.number_of.result c.in_ok-slot.slot c.get-past.result c.number_of.ensures.number c.in_ok-slot.ensures.slot c.get-past.ensures c.if-past-gt0.false in
     let new = not_had s.locations.items t c.args.loc placed none in
-    let more = sym c.in_ok-push.ensures.items in
-    (subst (IsDistinct (eq_by_cmp loc_cmp)) more (distinct_more s.locations.items c.args.loc c.self.invariant.0 new),
-     subst (λ (ls : List Loc). ArePlaced ls c.set.new.self) more
-     (place_put s.locations.items c.args.loc t c.set.new.self c.number_of.result c.in_ok-slot.slot _ c.number_of.ensures.fits placed none c.number_of.ensures.number
-     c.in_ok-slot.ensures.slot c.in_ok-slot.ensures.inside (let count = c.len-place.ensures in let all = s.locations.ok in omega (arith, count, all)) c.set.ensures.slots c.set.ensures.blocks))
+    let more = sym c.in_ok-push.ensures.items in (
+      subst (IsDistinct (eq_by_cmp loc_cmp)) more (distinct_more s.locations.items c.args.loc c.self.invariant.0 new),
+      subst (λ (ls : List Loc). ArePlaced ls c.set.new.self) more
+          (place_put s.locations.items c.args.loc t c.set.new.self c.number_of.result c.in_ok-slot.slot _ c.number_of.ensures.fits placed none c.number_of.ensures.number
+          c.in_ok-slot.ensures.slot c.in_ok-slot.ensures.inside (let count = c.len-place.ensures in let all = s.locations.ok in omega (arith, count, all)) c.set.ensures.slots c.set.ensures.blocks),
+    )
 
 pub returns-clause-added : goal.returns-clause-added
 returns-clause-added c =

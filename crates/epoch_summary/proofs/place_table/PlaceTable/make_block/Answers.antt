@@ -14,9 +14,9 @@ invariant_of-self-2 c =
     let new = c.resize.new.self.ok in
     let sized = c.in_ok-resize.ensures.len in
     let same : (i d : ℕ) → i < 64 * (length keys + 1) → i < length s.slots.items → get_or more i d ≡ get_or s.slots.items i d =
-        λ i d h k. index.0 i d (omega (arith, h, count)) (omega (arith, k, old)) in
+    λ i d h k. index.0 i d (omega (arith, h, count)) (omega (arith, k, old)) in
     let fresh : (i d : ℕ) → length s.slots.items ≤ i → i < 64 * (length keys + 1) → get_or more i d ≡ 0 =
-        λ i d h k. index.1 i d refl (omega (arith, h, old)) (omega (arith, k, count)) in
+    λ i d h k. index.1 i d refl (omega (arith, h, old)) (omega (arith, k, count)) in
     let size : length more ≡ 64 * (length keys + 1) = omega (arith, count, new, sized) in
     let is = keys_after c.insert_full.result keys after c.args.key c.insert_full.ensures.keys c.insert_full.ensures.err c.requires in
     record {
