@@ -1,3 +1,5 @@
 pub mod Named
 mod Alike
 mod Held
+mod Slotting
+mod Placing

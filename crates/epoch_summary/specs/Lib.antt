@@ -1,2 +1,4 @@
 pub mod Summaries
 pub mod Ahead
+pub mod Slots
+pub mod Placed

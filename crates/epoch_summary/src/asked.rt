@@ -7,8 +7,8 @@ ghost use Rattle.flow_model.specs.Orders.{loc_cmp};
 ghost use Rattle.lists.specs.Sets.{has};
 ghost use Rattle.epoch_model.specs.Crossing.{added};
 
+use crate::place_table::{PlaceTable, number_of};
 use flow_model::Loc;
-use indexmap::IndexSet;
 use no_memory::NoMemory;
 use std::alloc::Global;
 use std::marker::Model;
@@ -18,7 +18,8 @@ use std::marker::Model;
 /// Contracts see it as the list of them.
 #[derive(Drop)]
 pub struct Asked {
-    locations: IndexSet<Loc>,
+    locations: Vec<Loc>,
+    table: PlaceTable,
 }
 
 impl Model for Asked {
@@ -27,12 +28,14 @@ impl Model for Asked {
     ghost use Rattle.std.specs.Ordering.{eq_by_cmp};
     ghost use Rattle.flow_model.specs.declared.Loc.{Loc};
     ghost use Rattle.flow_model.specs.Orders.{loc_cmp};
+    ghost use Rattle.epoch_summary.specs.Placed.{ArePlaced};
 
     ghost Value = { List Loc };
 
-    ghost view = { λ asked. asked.locations.keys };
+    ghost view = { λ asked. asked.locations.items };
 
-    ghost invariant = { λ asked. IsDistinct (eq_by_cmp loc_cmp) asked.locations.keys };
+    ghost invariant = { λ asked. IsDistinct (eq_by_cmp loc_cmp) asked.locations.items
+        × ArePlaced asked.locations.items asked.table };
 }
 
 impl Asked {
@@ -41,7 +44,8 @@ impl Asked {
         ensures { result ≡ [] }
     {
         Asked {
-            locations: IndexSet::new(alloc),
+            locations: Vec::new(alloc),
+            table: PlaceTable::new(alloc),
         }
     }
 
@@ -65,7 +69,7 @@ impl Asked {
         requires { place < length self.now }
         ensures { slice_get self.now place ≡ Some result }
     {
-        self.locations.as_slice()[place]
+        self.locations[place]
     }
 
     /// All locations that are asked, in the order of asking.
@@ -80,17 +84,41 @@ impl Asked {
         ensures asked { is_some result ≡ has loc_cmp loc self.now }
         ensures place { IfSome result (λ place. slice_get self.now place ≡ Some loc) }
     {
-        self.locations.get_index_of(&loc)
+        match self.table.value(number_of(loc)) {
+            0 => None,
+            past => Some(past - 1),
+        }
+    }
+
+    /// The same as [`Asked::place_of`], for a location that most likely stands at this place: it is looked at first. Any
+    /// number may be given.
+    #[inline(always)]
+    pub fn place_near(&self, loc: Loc, place: usize) -> Option<usize>
+        ensures asked { is_some result ≡ has loc_cmp loc self.now }
+        ensures place { IfSome result (λ place. slice_get self.now place ≡ Some loc) }
+    {
+        if place < self.locations.len() && self.locations[place] == loc {
+            return Some(place);
+        }
+        self.place_of(loc)
     }
 
     /// Asks for a location too, unless it is asked already. It gives the location's place, counted from 0. When out of
     /// memory nothing changes.
+    #[inline(always)]
     pub fn add(&mut self, loc: Loc) -> Result<usize, NoMemory>
         ensures added { OnOk result (self.new ≡ added self.old loc) }
         ensures place { IfOk result (λ place. slice_get self.new place ≡ Some loc) }
         ensures err { OnErr result (self.new ≡ self.old) }
     {
-        let (place, _) = self.locations.insert_full(loc)?;
+        let slot = self.table.find(number_of(loc))?;
+        let past = self.table.get(slot);
+        if past > 0 {
+            return Ok(past - 1);
+        }
+        let place = self.locations.len();
+        self.locations.push(loc)?;
+        self.table.set(slot, place + 1);
         Ok(place)
     }
 }

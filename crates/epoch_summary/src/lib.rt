@@ -8,6 +8,7 @@
 #![tactic(auto)]
 
 mod asked;
+mod place_table;
 mod summary;
 
 pub use asked::Asked;

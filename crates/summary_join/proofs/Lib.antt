@@ -2,6 +2,7 @@ mod Places
 mod Resolving
 mod Labelling
 mod Carrying
+mod InPlace
 mod Marking
 mod Noting
 mod Looking

@@ -18,13 +18,18 @@ pub struct CutLabels {
 impl CutLabels {
     ghost use Rattle.summary_join.specs.Labels.{label_at};
 
-    /// The label of what a location had: that of nothing where it isn't asked for.
-    pub fn label(&self, loc: Loc) -> Label
+    /// The label of what a location had: that of nothing where it isn't asked for. Locations that are asked for one after
+    /// the other are mostly looked for so: the place after the one that was found last is looked at first.
+    #[inline(always)]
+    pub fn label(&self, loc: Loc, next: &mut usize) -> Label
         ensures { result ≡ label_at self.now.asked self.now.labels.items loc }
     {
         self.asked.form();
-        match self.asked.place_of(loc) {
-            Some(place) => label_or_nothing(&self.labels, place),
+        match self.asked.place_near(loc, *next) {
+            Some(place) => {
+                *next = place.wrapping_add(1);
+                label_or_nothing(&self.labels, place)
+            }
             None => Label::nothing(),
         }
     }

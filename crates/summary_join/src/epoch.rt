@@ -35,13 +35,13 @@ pub fn join_epoch(
     let Piece {
         summary,
         requests,
-        ends,
+        mut ends,
         marks,
     } = piece;
     let table = label_nodes(alloc, labels, summary.nodes().log(), &marks, cut)?;
     add_sinks(sinks, &summary, cut, &table)?;
     drop(summary);
-    let ends = carry_all(alloc, &ends, cut, &table)?;
+    carry_all(&mut ends, cut, &table);
     Ok(CutLabels {
         asked: requests,
         labels: ends,
@@ -50,12 +50,12 @@ pub fn join_epoch(
 
 /// The label in the one log of a label of the epoch's own.
 #[inline(always)]
-fn carry(label: Label, cut: &CutLabels, table: &[Label]) -> Label
+fn carry(label: Label, cut: &CutLabels, table: &[Label], next: &mut usize) -> Label
     ensures { result ≡ carried cut.now table.now label }
 {
     match label.kind() {
         LabelKind::Node(node) => label_or_nothing(table, node as usize),
-        LabelKind::Start(loc) => cut.label(loc),
+        LabelKind::Start(loc) => cut.label(loc, next),
         LabelKind::Run(run) => {
             if run.last < run.first {
                 return Label::nothing();
@@ -75,29 +75,28 @@ fn add_sinks(
     ensures { OnOk result (sinks.new.items
         ≡ sinks.old.items ++ map (carried_sink cut.now table.now) (sinks_of summary.now)) }
 {
-    let own = summary.sinks();
-    for number in 0..own.len() {
-        let sink = own[number];
-        sinks.push(SinkLabel {
-            name: sink.name,
-            label: carry(sink.label, cut, table),
-        })?;
-    }
+    let earlier = sinks.len();
+    sinks.extend_from_slice(summary.sinks())?;
+    carry_sinks(&mut sinks[earlier..], cut, table);
     Ok(())
 }
 
-/// The labels in the one log of some labels of the epoch's own.
-fn carry_all(
-    alloc: Global,
-    labels: &[Label],
-    cut: &CutLabels,
-    table: &[Label],
-) -> Result<Vec<Label>, NoMemory>
-    ensures { IfOk result (λ all. all.items ≡ map (carried cut.now table.now) labels.now) }
+/// Carries the labels of sinks.
+fn carry_sinks(sinks: &mut [SinkLabel], cut: &CutLabels, table: &[Label])
+    ensures { sinks.new ≡ map (carried_sink cut.now table.now) sinks.old }
 {
-    let mut all = Vec::with_capacity(alloc, labels.len())?;
-    for place in 0..labels.len() {
-        all.push(carry(labels[place], cut, table))?;
+    let mut next = 0;
+    for number in 0..sinks.len() {
+        sinks[number].label = carry(sinks[number].label, cut, table, &mut next);
     }
-    Ok(all)
+}
+
+/// Carries some labels of the epoch's own.
+fn carry_all(labels: &mut Vec<Label>, cut: &CutLabels, table: &[Label])
+    ensures { labels.new.items ≡ map (carried cut.now table.now) labels.old.items }
+{
+    let mut next = 0;
+    for place in 0..labels.len() {
+        labels[place] = carry(labels[place], cut, table, &mut next);
+    }
 }

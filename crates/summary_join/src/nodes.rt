@@ -32,8 +32,9 @@ pub fn label_nodes(
     let size = log.size() as usize;
     let mut table = Vec::with_capacity(alloc, size)?;
     table.push(Label::nothing())?;
+    let mut next = 0;
     for node in 1..size {
-        let label = label_node(labels, log, node as u32, marks, &table, cut)?;
+        let label = label_node(labels, log, node as u32, marks, &table, cut, &mut next)?;
         table.push(label)?;
     }
     Ok(table)
@@ -47,6 +48,7 @@ fn label_node(
     marks: &[bool],
     table: &[Label],
     cut: &CutLabels,
+    next: &mut usize,
 ) -> Result<Label, NoMemory>
     requires above_0 { 0 < node }
     requires stands { IsNode log.now node }
@@ -71,7 +73,7 @@ fn label_node(
             first,
             last,
         }),
-        Entry::Start(loc) => Ok(cut.label(loc)),
+        Entry::Start(loc) => Ok(cut.label(loc, next)),
         Entry::Union { left, right } => {
             let one = label_or_nothing(table, left as usize);
             let other = label_or_nothing(table, right as usize);

@@ -1,4 +1,4 @@
-use Rattle.std.proofs.Common.{◌∙◌, ◌++◌, Bool, List, ap, ap₂, map, refl, sym, subst₂}
+use Rattle.std.proofs.Common.{◌∙◌, ◌++◌, Bool, List, ap, map, refl, sym, subst₂}
 use Rattle.merge_log.specs.declared.nodes.Entry.{Entry}
 use Rattle.taint_shadow.specs.declared.labels.Label.{Label}
 use Rattle.source_labels.specs.Words.{log_of}
@@ -21,4 +21,4 @@ returns-clause-joined c =
     epoch_joined a.labels.now c.label_nodes.new.labels a.cut.now a.piece table c.requires.cut labelled a.sinks.now.items c.add_sinks.new.sinks.items _ c.requires.sinks
     (c.in_ok-add_sinks.ensures ∙ ap (λ (ks : List Label). a.sinks.now.items ++ map (carried_sink a.cut.now ks) (sinks_of a.piece.summary)) c.deref-2.ensures.value)
     refl
-    (c.in_ok-ends.ensures ∙ ap₂ (λ (ks own : List Label). map (carried a.cut.now ks) own) c.deref-4.ensures.value c.deref-3.ensures.value)
+    (c.carry_all.ensures ∙ ap (λ (ks : List Label). map (carried a.cut.now ks) a.piece.ends.items) c.deref-3.ensures.value)
