@@ -8,4 +8,3 @@ mod Looking
 mod Needing
 mod Asking
 mod UpTo
-mod Rows

@@ -3,7 +3,7 @@ use Rattle.log_model.specs.Logs.{steps}
 use Rattle.report_model.specs.Query.{policy_of}
 use Rattle.replayer.specs.Jobs.{trace_of}
 use Rattle.seq_taint.proofs.Whole.{origins_are_course, rows_of_run}
-use Rattle.seq_taint.proofs.labelled.LabelledSinks.of.Goals as goal
+use Rattle.seq_taint.proofs.labelled.sinks_of.Goals as goal
 
 pub returns : goal.returns
 returns c q job tracked =
