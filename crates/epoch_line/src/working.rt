@@ -76,7 +76,8 @@ pub fn rows<G: Gate, R: Threads + Wait + Sync>(
             let _points = query.points();
             let workers = parallelism.workers;
             let summaries = analyse_all(rt, alloc, gate, checkpoints, query, cuts, workers)?;
-            join(alloc, summaries)
+            let sinks = join(alloc, summaries)?;
+            Ok(SinkSets::from_vec(sinks.rows_at_once(rt, alloc, workers)?))
         }
     }
 }

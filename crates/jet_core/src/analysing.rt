@@ -57,5 +57,6 @@ pub(crate) fn rows_at_once<R: Threads + Sync>(
     let _points = query.points();
     let tickets = cuts.tickets(alloc)?;
     let summaries = found_at_once(rt, alloc, checkpoints, query, tickets)?;
-    join(alloc, summaries)
+    let sinks = join(alloc, summaries)?;
+    Ok(SinkSets::from_vec(sinks.rows(alloc)?))
 }

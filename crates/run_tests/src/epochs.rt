@@ -10,10 +10,13 @@ use answer_sets::{Answers, rows};
 use checkpoints::Checkpoints;
 use epoch_cut::laws::cut_times_are_cutting;
 use epoch_cut::{EpochTicket, cuts};
+use epoch_engine::{Joining, Parallelism};
+use epoch_link::Capacity;
 use epoch_summary::{Asked, Summary, TermsAhead};
 use flow_model::{Loc, SinkByte, SinkPoint, SourceByte};
 use local_taint::{analyse, analyse_last};
 use merge_log::TermsReader;
+use outer_io::OpenGate;
 use query_lang::{Query, parse};
 use replayer::{Checker, Cursor, Job, Next, steps_of};
 use seq_taint::sequential;
@@ -193,4 +196,38 @@ fn a_watcher_comes_to_the_rows_of_one_epoch(rt: HostRuntime) {
     assert_watched(&rt, &job_of(&rt, &CUT_OFF), POINTS, 16);
     assert_watched(&rt, &job_of(&rt, &TRAP), POINTS, 4);
     assert_watched(&rt, &copy_many(&rt), POINTS, 5032);
+}
+
+/// The rows of a run in epochs of a thousand steps, which one log joins, by so many workers.
+fn joined_rows(rt: &impl Runtime, job: &Job, query: &Query, workers: u32) -> Vec<SinkSet> {
+    let alloc = rt.alloc();
+    assert!(rt; 1 <= workers);
+    assert!(rt; workers <= 64);
+    let parallelism = Parallelism {
+        workers,
+        joining: Joining::ByOneLog,
+        link: Capacity::of(1),
+    };
+    job.form();
+    cut_times_are_cutting();
+    let cuts = cuts(job.steps(), 1000).expect(rt, "few epochs");
+    let points = Checkpoints::take(alloc, job, &cuts).expect(rt, "memory");
+    let sets = epoch_line::rows(rt, alloc, &OpenGate, &points, query, cuts, parallelism);
+    sets.expect(rt, "memory").into_vec()
+}
+
+/// The rows of thousands of sinks are those of the whole run, in its order, by one worker, and where each makes a part of them.
+#[test]
+fn all_workers_make_the_rows_of_a_long_run(rt: HostRuntime) {
+    let job = copy_many(&rt);
+    let query = parse(rt.alloc(), POINTS).expect(&rt, "a query");
+    let whole = sequential(rt.alloc(), &job, &query).expect(&rt, "memory");
+    for workers in [1, 3, 4, 64] {
+        let found = joined_rows(&rt, &job, &query, workers);
+        assert!(rt; found.len() == 5032);
+        assert!(rt; whole.len() == 5032);
+        for number in 0..5032 {
+            assert_same_row(&rt, &found[number], &whole[number]);
+        }
+    }
 }

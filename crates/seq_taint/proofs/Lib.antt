@@ -1,3 +1,2 @@
 mod DistinctRows
-mod Rows
 mod Whole

@@ -19,7 +19,7 @@ use Rattle.taint_tracking.specs.Sinks.{labelled, meant}
 use Rattle.source_labels.specs.declared.labels.SourceLabels.{SourceLabels}
 use Rattle.source_labels.specs.Words.{label_words}
 use Rattle.source_labels.proofs.Origins.{origins_later}
-use Rattle.seq_taint.specs.Rows.{row_by}
+use Rattle.labelled_sinks.specs.Rows.{row_by}
 
 -- the origins are what labels of source bytes mean over a run
 pub origins_are_course : (policy : Policy) (trace : List StepSeen) → IsCourse label_words policy trace 0 (origins policy trace)

@@ -5,9 +5,10 @@ ghost use Rattle.no_memory.specs.Faults.{IsCausedBy};
 ghost use Rattle.replayer.specs.Checks.{IsChecked, IsMisfit};
 ghost use Rattle.seq_taint.specs.Runs.{AreSinksOfRun};
 
-use crate::labelled::LabelledSinks;
+use crate::labelled::sinks_of;
 use crate::watching;
 use elf_image::Program;
+use labelled_sinks::LabelledSinks;
 use query_lang::Query;
 use replay_log::Log;
 use replayer::{CheckFault, Job};
@@ -29,6 +30,6 @@ pub fn check_whole(
     let mut watching = watching(alloc, query)?;
     let Program { bytes, image } = program;
     let job = Job::check_watched(alloc, &bytes, image, log, &mut watching)?;
-    let sinks = LabelledSinks::of(watching)?;
+    let sinks = sinks_of(watching)?;
     Ok((job, sinks))
 }

@@ -2,7 +2,7 @@
 //! locations are labelled with source bytes alone: what stood anywhere at the run's start came from none.
 //!
 //! Crates above rest on this: `sequential` is the rows in the order of the run, each output byte and each point once.
-//! `check_whole` finds the sinks of a run, each with a label, while its log is checked, and `LabelledSinks::rows` are their rows.
+//! `check_whole` finds the sinks of a run, each with a label, while its log is checked.
 //! `rows_are_distinct` is a law of all runs. What watches a run is told of its steps by a loop that is compiled for this crate alone:
 //! so the loop has the machine and the labels in its midst.
 #![tactic(auto)]
@@ -20,7 +20,7 @@ ghost use Rattle.taint_tracking.specs.Watched.{HasBegun};
 
 pub use checking::check_whole;
 pub use distinct::rows_are_distinct;
-pub use labelled::LabelledSinks;
+use labelled::sinks_of;
 use no_memory::NoMemory;
 use query_lang::Query;
 use replayer::Job;
@@ -40,7 +40,7 @@ pub fn sequential(alloc: Global, job: &Job, query: &Query) -> Result<Vec<SinkSet
     rows_are_distinct(job, query);
     let mut watching = watching(alloc, query)?;
     job.watch(alloc, &mut watching)?;
-    let sinks = LabelledSinks::of(watching)?;
+    let sinks = sinks_of(watching)?;
     sinks.rows(alloc)
 }
 

@@ -25,7 +25,8 @@ use Rattle.summary_join.specs.declared.cut.CutLabels.{CutLabels}
 use Rattle.summary_join.specs.declared.piece.Piece.{Piece}
 use Rattle.summary_join.specs.Labels.{AllStand, AreNodeLabels, carried, carried_by, carried_sink, had, label_at}
 use Rattle.summary_join.specs.Needs.{IsCovered}
-use Rattle.summary_join.specs.Joins.{IsJoined, SinksStand, row_by}
+use Rattle.labelled_sinks.specs.Rows.{SinksStand, row_by}
+use Rattle.summary_join.specs.Joins.{IsJoined}
 use Rattle.summary_join.proofs.Places.{at_had, label_is}
 use Rattle.summary_join.proofs.Labelling.{cut_stands}
 use Rattle.summary_join.proofs.Resolving.{resolved-run}

@@ -9,4 +9,3 @@ mod Looking
 mod Needing
 mod Asking
 mod UpTo
-mod Rows

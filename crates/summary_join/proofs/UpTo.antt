@@ -29,7 +29,8 @@ use Rattle.source_labels.specs.Words.{label_words}
 use Rattle.summary_join.specs.declared.cut.CutLabels.{CutLabels}
 use Rattle.summary_join.specs.declared.piece.Piece.{Piece}
 use Rattle.summary_join.specs.Labels.{had, label_at}
-use Rattle.summary_join.specs.Joins.{IsJoined, row_by}
+use Rattle.labelled_sinks.specs.Rows.{row_by}
+use Rattle.summary_join.specs.Joins.{IsJoined}
 use Rattle.summary_join.specs.Pieces.{ArePieces, IsPiece}
 use Rattle.summary_join.specs.Runs.{AreOfRun, CutTrace}
 use Rattle.summary_join.proofs.Asking.{located}

@@ -1,25 +1,16 @@
 -- An epoch, joined to those before it.
-use Rattle.std.specs.Prelude.{◌≡◌, true, List, ◌++◌, map, All}
+use Rattle.std.specs.Prelude.{◌≡◌, true, List, ◌++◌, map}
 use Rattle.lists.specs.Sets.{has}
 use Rattle.flow_model.specs.declared.Loc.{Loc}
 use Rattle.flow_model.specs.Orders.{loc_cmp}
-use Rattle.report_model.specs.Rows.{Row}
 use Rattle.epoch_model.specs.Join.{resolved, rows_of}
 use Rattle.taint_shadow.specs.declared.labels.SinkLabel.{SinkLabel}
 use Rattle.source_labels.specs.declared.labels.SourceLabels.{SourceLabels}
-use Rattle.source_labels.specs.Words.{label_words}
 use Rattle.epoch_summary.specs.Summaries.{summary_of}
+use Rattle.labelled_sinks.specs.Rows.{SinksStand, row_by}
 use Rattle.summary_join.specs.declared.cut.CutLabels.{CutLabels}
 use Rattle.summary_join.specs.declared.piece.Piece.{Piece}
 use Rattle.summary_join.specs.Labels.{AllStand, had}
-
--- the label of each of the sinks stands
-abbrev pub SinksStand : SourceLabels → List SinkLabel → Type 0
-SinksStand labels sinks = All (λ k. label_words.stands labels k.label) sinks
-
--- a sink with the source bytes of its label
-abbrev pub row_by : SourceLabels → SinkLabel → Row
-row_by labels k = record { sink = k.name; sources = label_words.means labels k.label }
 
 -- an epoch's sinks come after the earlier ones, and the next cut has what the locations that are asked there had at the
 -- epoch's end

@@ -5,7 +5,8 @@ ghost use Rattle.taint_shadow.specs.Labels.{KeepsLabels};
 ghost use Rattle.source_labels.specs.Words.{label_words};
 ghost use Rattle.epoch_summary.specs.Summaries.{sinks_of};
 ghost use Rattle.summary_join.specs.Labels.{AllStand, carried, carried_sink};
-ghost use Rattle.summary_join.specs.Joins.{SinksStand, IsJoined};
+ghost use Rattle.labelled_sinks.specs.Rows.{SinksStand};
+ghost use Rattle.summary_join.specs.Joins.{IsJoined};
 
 use crate::cut::{CutLabels, label_or_nothing};
 use crate::nodes::label_nodes;

@@ -4,42 +4,31 @@ ghost use Rattle.std.specs.Prelude.{◌≡◌, List, map, IfOk};
 ghost use Rattle.report_model.specs.Rows.{rows_as_written};
 ghost use Rattle.epoch_model.specs.Summary.{Summary as EpochSummary};
 ghost use Rattle.epoch_summary.specs.Summaries.{summary_of};
-ghost use Rattle.summary_join.specs.Joins.{SinksStand, row_by};
+ghost use Rattle.labelled_sinks.specs.Rows.{SinksStand, row_by};
 ghost use Rattle.summary_join.specs.Pieces.{ArePieces};
 ghost use Rattle.summary_join.specs.Runs.{AreOfRun, CutTrace};
 
 use crate::cut::CutLabels;
 use crate::epoch::join_epoch;
 use crate::piece::Piece;
-use answer_sets::{Answers, rows_of_sinks};
 use epoch_summary::{Asked, Summary};
-use merge_log::TermsReader;
+use labelled_sinks::LabelledSinks;
 use no_memory::NoMemory;
-use sink_collect::SinkSets;
 use source_labels::SourceLabels;
 use std::alloc::Global;
 use taint_shadow::SinkLabel;
 
-/// The rows of a run, in its order, of the summaries of all its epochs, where it is cut and analysed in any way: each
-/// output byte and each point that the query asks for, with the source bytes that it came from. A summary is let go as
+/// The sinks of a run, in its order, each with a label, of the summaries of all its epochs, where it is cut and analysed in
+/// any way: each output byte and each point that the query asks for. They come to the rows of the run. A summary is let go as
 /// soon as its nodes are labelled. It gives up with NoMemory alone.
-pub fn join(alloc: Global, summaries: Vec<Summary>) -> Result<SinkSets, NoMemory>
+pub fn join(alloc: Global, summaries: Vec<Summary>) -> Result<LabelledSinks, NoMemory>
     requires { (run : CutTrace) × AreOfRun run (map summary_of summaries.items) }
     ensures { (run : CutTrace) → AreOfRun run (map summary_of summaries.items)
-        → IfOk result (λ sets. sets ≡ rows_as_written run.query run.trace) }
+        → IfOk result (λ sinks. sinks ≡ rows_as_written run.query run.trace) }
 {
     let (pieces, asked) = ask(alloc, summaries)?;
     let (labels, sinks) = label(alloc, pieces, asked)?;
-    let mut reader = TermsReader::new(alloc);
-    let rows = rows_of_sinks(
-        alloc,
-        &mut reader,
-        labels.nodes(),
-        &sinks,
-        &Asked::new(alloc),
-        &Answers::new(alloc),
-    )?;
-    Ok(SinkSets::from_vec(rows))
+    Ok(LabelledSinks::new(labels, sinks))
 }
 
 /// The pieces of all epochs, that of the last one first, and what the first one asks for: each epoch asks the one

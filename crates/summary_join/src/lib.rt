@@ -1,6 +1,7 @@
-//! The summaries of a run's epochs, joined in one log of source labels to the rows of the run, without messages.
+//! The summaries of a run's epochs, joined in one log of source labels to the labelled sinks of the run, without messages.
 //!
-//! Crates above rest on this: `join` gives the rows of a run, in its order, of the summaries of all its epochs.
+//! Crates above rest on this: `join` gives the sinks of a run, in its order, of the summaries of all its epochs, and
+//! they come to the rows of the run.
 //! Backward, each epoch is looked through once for the start locations that its sinks, and what the next epoch asks
 //! for, come from: so what is asked at a cut is exactly what is needed there, each location once (`laws`). Forward,
 //! each node that they come from gets a label in one log, once: source bytes are themselves, a start location is the

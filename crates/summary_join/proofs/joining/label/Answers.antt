@@ -4,7 +4,7 @@ use Rattle.std.proofs.lemmas.List.Elements.{All-nil}
 use Rattle.taint_shadow.specs.declared.labels.SinkLabel.{SinkLabel}
 use Rattle.source_labels.specs.Words.{label_words}
 use Rattle.summary_join.specs.Labels.{AllStand}
-use Rattle.summary_join.specs.Joins.{SinksStand}
+use Rattle.labelled_sinks.specs.Rows.{SinksStand}
 use Rattle.summary_join.proofs.UpTo.{begun, joined_next, joined_whole}
 use Rattle.summary_join.proofs.joining.label.Goals as goal
 

@@ -1,7 +1,7 @@
 use Rattle.std.proofs.Common.{List, vec_len}
 use Rattle.epoch_model.specs.Summary.{Summary}
 use Rattle.summary_join.specs.Labels.{AllStand}
-use Rattle.summary_join.specs.Joins.{SinksStand}
+use Rattle.labelled_sinks.specs.Rows.{SinksStand}
 use Rattle.summary_join.specs.Pieces.{ArePieces}
 use Rattle.summary_join.specs.Runs.{AreOfRun, CutTrace}
 use Rattle.summary_join.proofs.UpTo.{IsUpTo}

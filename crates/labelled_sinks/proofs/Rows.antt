@@ -1,6 +1,5 @@
 -- The rows of sinks that have labels in the one log.
 use Rattle.std.proofs.Common.{◌≡◌, List, [], ◌∷◌, map, refl, ap, ap₂, ◌∙◌}
-use Rattle.std.proofs.lemmas.List.Elements.{All-weaker}
 use Rattle.lists.specs.Sets.{union}
 use Rattle.lists.proofs.Algebra.{union-nil}
 use Rattle.flow_model.specs.declared.Loc.{Loc}
@@ -15,12 +14,9 @@ use Rattle.taint_shadow.specs.declared.labels.SinkLabel.{SinkLabel}
 use Rattle.source_labels.specs.declared.labels.SourceLabels.{SourceLabels}
 use Rattle.source_labels.specs.declared.nodes.Nodes.{Nodes}
 use Rattle.source_labels.specs.Laws.{terms_ascend}
-use Rattle.source_labels.specs.Words.{HaveNodesIn, label_words, log_of, node_words, nodes_of}
+use Rattle.source_labels.specs.Words.{label_words, log_of, node_words, nodes_of}
 use Rattle.epoch_summary.specs.Summaries.{named}
-use Rattle.summary_join.specs.Joins.{SinksStand, row_by}
-
-pub have_nodes : (labels : SourceLabels) (sinks : List SinkLabel) → SinksStand labels sinks → HaveNodesIn (nodes_of labels) sinks
-have_nodes labels sinks h = All-weaker (λ (k : SinkLabel). label_words.stands labels k.label) (λ (k : SinkLabel). node_words.stands (nodes_of labels) k.label) (λ k s. s.stands) sinks h
+use Rattle.labelled_sinks.specs.Rows.{row_by}
 
 -- where nothing was asked, start locations add no source byte
 nothing_over : (ls : List Loc) → union_over (answer_to [] []) ls ≡ []
