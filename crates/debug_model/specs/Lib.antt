@@ -6,3 +6,5 @@ pub mod Description
 pub mod Commands
 pub mod Answers
 pub mod Dialogues
+pub mod DialogueLaws
+pub mod TravelLaws

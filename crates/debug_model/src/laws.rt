@@ -1,0 +1,43 @@
+//! Laws of the definitions: each is the contract of a function that does nothing, but for the laws that it rests on.
+
+ghost use Rattle.debug_model.specs.DialogueLaws.{BeginningIsBeginning, NothingIsBehindTheEnd};
+ghost use Rattle.debug_model.specs.TravelLaws.{NothingIsPassedForward, NothingIsPassedBack, OnIsTakenBack, StepIsTakenBack, StepBackIsMadeAgain, RunStaysAsItWas};
+
+/// What is written for a beginning of the bytes that are read is the beginning of what is written for all of them; and
+/// behind the packet that ends the session nothing is.
+pub fn dialogues_grow()
+    ensures beginning { BeginningIsBeginning }
+    ensures end { NothingIsBehindTheEnd }
+{
+    remote_frames::laws::beginning_is_heard();
+}
+
+/// Between the ends of a move no time is a stop: a move forward comes to the first, or to the end of the run, and a move
+/// back to the last, or to the beginning.
+pub fn nothing_is_passed_over()
+    ensures forward { NothingIsPassedForward }
+    ensures back { NothingIsPassedBack }
+{
+    run_travel::laws::nothing_is_passed_over();
+}
+
+/// With breakpoints alone, a move on that began where the pc has one, and made a step, is taken back by a move back.
+pub fn a_move_on_is_taken_back()
+    ensures { OnIsTakenBack }
+{
+    run_travel::laws::a_move_on_is_taken_back();
+}
+
+/// A step back after a step, and a step after a step back, tell the registers and the memory of before, but at the ends
+/// of the run.
+pub fn a_step_is_taken_back()
+    ensures on { StepIsTakenBack }
+    ensures back { StepBackIsMadeAgain }
+{
+    run_travel::laws::one_step_is_made();
+}
+
+/// Nothing that is heard changes the run: a command that goes to a time finds there what it would have found before.
+pub fn a_run_stays_as_it_was()
+    ensures { RunStaysAsItWas }
+{}
