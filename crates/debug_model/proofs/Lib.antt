@@ -1,2 +1,3 @@
 pub mod Hearing
 mod Travelling
+mod Worked
