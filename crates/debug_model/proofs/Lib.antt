@@ -1,3 +1,4 @@
 pub mod Hearing
 mod Travelling
+mod Writing
 mod Worked

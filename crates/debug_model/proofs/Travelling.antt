@@ -20,7 +20,7 @@ use Rattle.debug_model.specs.TravelLaws.{aim_of, IsNextStop, IsLastStop, Nothing
 
 -- ---- the time to which a packet goes
 
-time_of_move : (job : Job) (s : SessionAt) (bytes : List ℕ) (move : Move) → packet_of bytes ≡ Go move
+pub time_of_move : (job : Job) (s : SessionAt) (bytes : List ℕ) (move : Move) → packet_of bytes ≡ Go move
     → (after job s bytes).time ≡ (arrival job s.points s.time move).time
 time_of_move job s bytes move is = ap (λ (p : Packet). (changed_by job s bytes p).time) is
 

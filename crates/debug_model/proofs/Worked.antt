@@ -1,15 +1,14 @@
 -- Worked examples, computed by the checker: texts, commands in words, and a dialogue over a program that copies four bytes.
-use Rattle.std.proofs.Common.{◌≡◌, ℕ, true, List, [], ◌∷◌, ◌++◌, length, Option, Some, None, replicate, pos, refl}
+use Rattle.std.proofs.Common.{◌≡◌, ℕ, List, [], ◌∷◌, ◌++◌, length, Some, None, replicate, pos, refl}
 use Rattle.std.specs.Prelude.{codes}
 use Rattle.std.specs.Fmt.{digits}
 use Rattle.std.specs.List.{flat_map}
 use Rattle.hex.specs.Hex.{encode_with, decode_pairs}
 use Rattle.isa.specs.Machine.{State}
-use Rattle.log_model.specs.declared.CallRecord.{CallRecord}
 use Rattle.log_model.specs.declared.CallRecord.TheVariants.{Read, Write}
 use Rattle.log_model.specs.declared.RunEnd.TheVariants.{Exit}
 use Rattle.replayer.specs.Jobs.{Job}
-use Rattle.remote_frames.specs.Frames.{frame, heard}
+use Rattle.remote_frames.specs.Frames.{heard}
 use Rattle.remote_packets.specs.Packets.{packet_of}
 use Rattle.run_travel.specs.declared.cause.Cause.TheVariants.{Arrived, Watched, End, Trapped, Beginning}
 use Rattle.run_travel.specs.declared.kind.WatchKind.TheVariants.{Writes, Reads, Both}

@@ -8,3 +8,4 @@ pub mod Answers
 pub mod Dialogues
 pub mod DialogueLaws
 pub mod TravelLaws
+pub mod WriteLaws

@@ -2,6 +2,7 @@
 
 ghost use Rattle.debug_model.specs.DialogueLaws.{BeginningIsBeginning, NothingIsBehindTheEnd};
 ghost use Rattle.debug_model.specs.TravelLaws.{NothingIsPassedForward, NothingIsPassedBack, OnIsTakenBack, StepIsTakenBack, StepBackIsMadeAgain, RunStaysAsItWas};
+ghost use Rattle.debug_model.specs.WriteLaws.{NothingIsWrittenBetween, NothingIsWrittenBefore};
 
 /// What is written for a beginning of the bytes that are read is the beginning of what is written for all of them; and
 /// behind the packet that ends the session nothing is.
@@ -41,3 +42,14 @@ pub fn a_step_is_taken_back()
 pub fn a_run_stays_as_it_was()
     ensures { RunStaysAsItWas }
 {}
+
+/// Who wrote: between the time to which a move back came, and the time from which it came, the bytes of a watchpoint that
+/// looks for writes stay the same, but for the step that was taken back. Where the move is told the beginning, they are the
+/// same at all times before.
+pub fn who_wrote()
+    ensures between { NothingIsWrittenBetween }
+    ensures before { NothingIsWrittenBefore }
+{
+    run_travel::laws::a_watchpoint_is_met_by_a_byte_of_both();
+    run_travel::laws::nothing_is_passed_over();
+}
