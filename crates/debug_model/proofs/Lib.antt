@@ -1,4 +1,6 @@
 pub mod Hearing
 mod Travelling
 mod Writing
+mod Written
+mod Told
 mod Worked

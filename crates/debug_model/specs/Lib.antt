@@ -9,3 +9,4 @@ pub mod Dialogues
 pub mod DialogueLaws
 pub mod TravelLaws
 pub mod WriteLaws
+pub mod FrameLaws

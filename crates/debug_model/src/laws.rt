@@ -1,6 +1,7 @@
 //! Laws of the definitions: each is the contract of a function that does nothing, but for the laws that it rests on.
 
 ghost use Rattle.debug_model.specs.DialogueLaws.{BeginningIsBeginning, NothingIsBehindTheEnd};
+ghost use Rattle.debug_model.specs.FrameLaws.{AnswersAreWritten, DialogueIsHeard};
 ghost use Rattle.debug_model.specs.TravelLaws.{NothingIsPassedForward, NothingIsPassedBack, OnIsTakenBack, StepIsTakenBack, StepBackIsMadeAgain, RunStaysAsItWas};
 ghost use Rattle.debug_model.specs.WriteLaws.{NothingIsWrittenBetween, NothingIsWrittenBefore};
 
@@ -11,6 +12,15 @@ pub fn dialogues_grow()
     ensures end { NothingIsBehindTheEnd }
 {
     remote_frames::laws::beginning_is_heard();
+}
+
+/// The packets of answers have none of `#`, `$`, `}` and `*` inside, and 16384 bytes at most; and what is written is heard
+/// as them, in order.
+pub fn answers_are_heard()
+    ensures written { AnswersAreWritten }
+    ensures heard { DialogueIsHeard }
+{
+    remote_frames::laws::frame_is_heard();
 }
 
 /// Between the ends of a move no time is a stop: a move forward comes to the first, or to the end of the run, and a move
