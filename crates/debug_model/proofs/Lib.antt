@@ -1,6 +1,7 @@
 pub mod Hearing
 mod Travelling
 mod Writing
+mod StateTexts
 mod Written
 mod Told
 mod Worked

@@ -27,7 +27,8 @@ use Rattle.run_travel.specs.MoveLaws as moves
 use Rattle.debug_model.specs.Sessions.{SessionAt}
 use Rattle.debug_model.specs.StopTexts.{stop_text}
 use Rattle.debug_model.specs.Answers.{answer_to}
-use Rattle.debug_model.specs.WriteLaws.{looks_for_writes, byte_at, SameWatched, IsSearched, NothingIsWrittenBetween, NothingIsWrittenBefore}
+use Rattle.debug_model.specs.StateLaws.{byte_at}
+use Rattle.debug_model.specs.WriteLaws.{looks_for_writes, SameWatched, IsSearched, NothingIsWrittenBetween, NothingIsWrittenBefore}
 use Rattle.debug_model.proofs.Travelling.{time_of_move}
 
 -- ---- a step that isn't a stop writes no watched byte

@@ -8,5 +8,6 @@ pub mod Answers
 pub mod Dialogues
 pub mod DialogueLaws
 pub mod TravelLaws
+pub mod StateLaws
 pub mod WriteLaws
 pub mod FrameLaws

@@ -1,7 +1,6 @@
 -- Who wrote the bytes that a watchpoint watches.
-use Rattle.std.specs.Prelude.{◌≡◌, ℕ, ◌-◌, ◌<◌, ◌≤◌, Bool, true, false, if◌then◌else◌, List, [], ◌∷◌, slice_index, codes, Option, Some, None}
+use Rattle.std.specs.Prelude.{◌≡◌, ℕ, ◌<◌, ◌≤◌, Bool, true, false, List, [], ◌∷◌, codes}
 use Rattle.std.specs.List.{Contains}
-use Rattle.isa.specs.Machine.{State, in_window}
 use Rattle.log_model.specs.Logs.{steps}
 use Rattle.replayer.specs.Jobs.{Job, IsJob}
 use Rattle.replayer.specs.Positions.{state_at}
@@ -14,15 +13,12 @@ use Rattle.run_travel.specs.declared.watch.Watch.{Watch}
 use Rattle.run_travel.specs.Stops.{is_watched}
 use Rattle.debug_model.specs.Sessions.{SessionAt}
 use Rattle.debug_model.specs.Answers.{answer, after}
+use Rattle.debug_model.specs.StateLaws.{byte_at}
 
 abbrev pub looks_for_writes : WatchKind → Bool
 looks_for_writes Writes = true
 looks_for_writes Reads = false
 looks_for_writes Both = true
-
--- the byte at an address; none outside of the window
-abbrev pub byte_at : State → ℕ → Option ℕ
-byte_at s place = if in_window s place 1 then Some (slice_index s.memory (place - s.base)) else None
 
 -- the bytes that a watchpoint watches are the same at two times
 abbrev pub SameWatched : Job → Watch → ℕ → ℕ → Type 0

@@ -2,6 +2,7 @@
 
 ghost use Rattle.debug_model.specs.DialogueLaws.{BeginningIsBeginning, NothingIsBehindTheEnd};
 ghost use Rattle.debug_model.specs.FrameLaws.{AnswersAreWritten, DialogueIsHeard};
+ghost use Rattle.debug_model.specs.StateLaws.{StateIsOfRun, EachIsAmongAll, RegistersAreRead, MemoryIsBytes};
 ghost use Rattle.debug_model.specs.TravelLaws.{NothingIsPassedForward, NothingIsPassedBack, OnIsTakenBack, StepIsTakenBack, StepBackIsMadeAgain, RunStaysAsItWas};
 ghost use Rattle.debug_model.specs.WriteLaws.{NothingIsWrittenBetween, NothingIsWrittenBefore};
 
@@ -22,6 +23,16 @@ pub fn answers_are_heard()
 {
     remote_frames::laws::frame_is_heard();
 }
+
+/// Registers and memory are told of the moment after so many steps of the run of the program under the log. Among all
+/// registers each is told as alone, and its text is read as its value. Of memory as many bytes are told as stand in the
+/// window, 8000 at most, and they are those at their addresses.
+pub fn the_state_is_told()
+    ensures run { StateIsOfRun }
+    ensures among { EachIsAmongAll }
+    ensures registers { RegistersAreRead }
+    ensures memory { MemoryIsBytes }
+{}
 
 /// Between the ends of a move no time is a stop: a move forward comes to the first, or to the end of the run, and a move
 /// back to the last, or to the beginning.
