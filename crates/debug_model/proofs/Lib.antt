@@ -4,4 +4,5 @@ mod Writing
 mod StateTexts
 mod Written
 mod Told
+mod Bytes
 mod Worked

@@ -11,3 +11,4 @@ pub mod TravelLaws
 pub mod StateLaws
 pub mod WriteLaws
 pub mod FrameLaws
+pub mod ByteLaws

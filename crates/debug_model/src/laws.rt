@@ -1,5 +1,6 @@
 //! Laws of the definitions: each is the contract of a function that does nothing, but for the laws that it rests on.
 
+ghost use Rattle.debug_model.specs.ByteLaws.{StepOfByteIsTold};
 ghost use Rattle.debug_model.specs.DialogueLaws.{BeginningIsBeginning, NothingIsBehindTheEnd};
 ghost use Rattle.debug_model.specs.FrameLaws.{AnswersAreWritten, DialogueIsHeard};
 ghost use Rattle.debug_model.specs.StateLaws.{StateIsOfRun, EachIsAmongAll, RegistersAreRead, MemoryIsBytes};
@@ -73,4 +74,12 @@ pub fn who_wrote()
 {
     run_travel::laws::a_watchpoint_is_met_by_a_byte_of_both();
     run_travel::laws::nothing_is_passed_over();
+}
+
+/// The step that `read` or `wrote` tells of a byte moved it. Where none is told, the run moved no more bytes that way on
+/// the channel.
+pub fn the_step_of_a_byte_is_told()
+    ensures { StepOfByteIsTold }
+{
+    run_output::laws::lines_tile_channels();
 }
