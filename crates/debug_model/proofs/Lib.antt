@@ -2,6 +2,7 @@ pub mod Hearing
 mod Travelling
 mod Writing
 mod StateTexts
+mod CommandPackets
 mod Written
 mod Told
 mod Bytes

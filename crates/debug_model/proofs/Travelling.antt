@@ -12,11 +12,9 @@ use Rattle.run_travel.specs.Stops.{PointsAt, stops_after, stops_before}
 use Rattle.run_travel.specs.Moves.{stop_on, stop_back, time_after, time_before}
 use Rattle.run_travel.specs.MoveLaws as moves
 use Rattle.debug_model.specs.Sessions.{SessionAt}
-use Rattle.debug_model.specs.Commands.{time_asked}
 use Rattle.debug_model.specs.Arrivals.{arrival}
-use Rattle.debug_model.specs.Answers.{answer_to, after, changed_by, put, command_in}
-use Rattle.debug_model.specs.Dialogues.{next_all}
-use Rattle.debug_model.specs.TravelLaws.{aim_of, IsNextStop, IsLastStop, NothingIsPassedForward, NothingIsPassedBack, OnIsTakenBack, asks_state, TellSameState, StepIsTakenBack, StepBackIsMadeAgain, RunStaysAsItWas}
+use Rattle.debug_model.specs.Answers.{answer_to, after, changed_by}
+use Rattle.debug_model.specs.TravelLaws.{aim_of, IsNextStop, IsLastStop, NothingIsPassedForward, NothingIsPassedBack, OnIsTakenBack, asks_state, TellSameState, StepIsTakenBack, StepBackIsMadeAgain}
 
 -- ---- the time to which a packet goes
 
@@ -27,11 +25,6 @@ time_of_move job s bytes move is = ap (λ (p : Packet). (changed_by job s bytes 
 points_of_move : (job : Job) (s : SessionAt) (bytes : List ℕ) (move : Move) → packet_of bytes ≡ Go move
     → (after job s bytes).points ≡ s.points
 points_of_move job s bytes move is = ap (λ (p : Packet). (changed_by job s bytes p).points) is
-
-time_of_command : (job : Job) (s : SessionAt) (bytes : List ℕ) (t : ℕ) → packet_of bytes ≡ Command
-    → time_asked job.log (command_in bytes) ≡ Some t → (after job s bytes).time ≡ t
-time_of_command job s bytes t is asked =
-    ap (λ (p : Packet). (changed_by job s bytes p).time) is ∙ ap (λ (o : Option ℕ). (put s o).time) asked
 
 -- ---- nothing is passed over
 
@@ -96,7 +89,7 @@ taken_back takes job s on back alone low here is_on is_back =
 
 -- ---- the same state
 
-at_one_time : (job : Job) (s u : SessionAt) → s.time ≡ u.time → TellSameState job s u
+pub at_one_time : (job : Job) (s u : SessionAt) → s.time ≡ u.time → TellSameState job s u
 at_one_time job s u same bytes asks = by (packet_of bytes) asks where
   by : (p : Packet) → asks_state p ≡ true → answer_to job s bytes p ≡ answer_to job u bytes p
   by Registers e = rw same refl
@@ -142,11 +135,4 @@ step_made_again one job s back on some low is_back is_on =
     step_made one job (after job s back) on (omega (arith, there)) is_on
     ∙ ap (λ (t : ℕ). t + 1) there
     ∙ same
-    )
-
-pub stays_as_it_was : RunStaysAsItWas
-stays_as_it_was job s hs bytes t is asked =
-    at_one_time job (after job (next_all job s hs) bytes) (after job s bytes) (
-    time_of_command job (next_all job s hs) bytes t is asked
-    ∙ sym (time_of_command job s bytes t is asked)
     )

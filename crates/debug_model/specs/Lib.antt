@@ -8,6 +8,7 @@ pub mod Answers
 pub mod Dialogues
 pub mod DialogueLaws
 pub mod TravelLaws
+pub mod CommandLaws
 pub mod StateLaws
 pub mod WriteLaws
 pub mod FrameLaws

@@ -7,14 +7,11 @@ use Rattle.remote_packets.specs.declared.packet.Packet.TheVariants.{LastStop, Re
 use Rattle.remote_packets.specs.declared.packet.Move.{Move}
 use Rattle.remote_packets.specs.declared.packet.Move.TheVariants.{Step, Continue, RangeStep, ReverseStep, ReverseContinue}
 use Rattle.remote_packets.specs.Packets.{packet_of}
-use Rattle.remote_frames.specs.Frames.{Heard}
 use Rattle.run_travel.specs.declared.aim.Aim.{Aim}
 use Rattle.run_travel.specs.declared.aim.Aim.TheVariants as aim
 use Rattle.run_travel.specs.Stops.{PointsAt, pc_at, is_break, stops_after, stops_before}
 use Rattle.debug_model.specs.Sessions.{SessionAt}
-use Rattle.debug_model.specs.Commands.{time_asked}
-use Rattle.debug_model.specs.Answers.{answer, after, command_in}
-use Rattle.debug_model.specs.Dialogues.{next_all}
+use Rattle.debug_model.specs.Answers.{answer, after}
 
 -- ---- nothing is passed over
 
@@ -94,9 +91,3 @@ StepIsTakenBack = (job : Job) (s : SessionAt) (on back : List ℕ) → s.time < 
 abbrev pub StepBackIsMadeAgain : Type 0
 StepBackIsMadeAgain = (job : Job) (s : SessionAt) (back on : List ℕ) → 0 < s.time → s.time ≤ steps job.log
     → packet_of back ≡ Go ReverseStep → packet_of on ≡ Go Step → TellSameState job (after job (after job s back) on) s
-
--- nothing that is heard changes what is told at a time to which a command goes then
-abbrev pub RunStaysAsItWas : Type 0
-RunStaysAsItWas = (job : Job) (s : SessionAt) (hs : List Heard) (bytes : List ℕ) (t : ℕ) → packet_of bytes ≡ Command
-    → time_asked job.log (command_in bytes) ≡ Some t
-    → TellSameState job (after job (next_all job s hs) bytes) (after job s bytes)

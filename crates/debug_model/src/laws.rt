@@ -1,10 +1,11 @@
 //! Laws of the definitions: each is the contract of a function that does nothing, but for the laws that it rests on.
 
 ghost use Rattle.debug_model.specs.ByteLaws.{StepOfByteIsTold};
+ghost use Rattle.debug_model.specs.CommandLaws.{WordsAreRead, TimesAreRead, EachTimeIsReached, RunStaysAsItWas};
 ghost use Rattle.debug_model.specs.DialogueLaws.{BeginningIsBeginning, NothingIsBehindTheEnd};
 ghost use Rattle.debug_model.specs.FrameLaws.{AnswersAreWritten, DialogueIsHeard};
 ghost use Rattle.debug_model.specs.StateLaws.{StateIsOfRun, EachIsAmongAll, RegistersAreRead, MemoryIsBytes};
-ghost use Rattle.debug_model.specs.TravelLaws.{NothingIsPassedForward, NothingIsPassedBack, OnIsTakenBack, StepIsTakenBack, StepBackIsMadeAgain, RunStaysAsItWas};
+ghost use Rattle.debug_model.specs.TravelLaws.{NothingIsPassedForward, NothingIsPassedBack, OnIsTakenBack, StepIsTakenBack, StepBackIsMadeAgain};
 ghost use Rattle.debug_model.specs.WriteLaws.{NothingIsWrittenBetween, NothingIsWrittenBefore};
 
 /// What is written for a beginning of the bytes that are read is the beginning of what is written for all of them; and
@@ -60,7 +61,15 @@ pub fn a_step_is_taken_back()
     run_travel::laws::one_step_is_made();
 }
 
-/// Nothing that is heard changes the run: a command that goes to a time finds there what it would have found before.
+/// A packet that asks for a command in words is read as it, and `goto T` goes to each time of the run.
+pub fn commands_are_read()
+    ensures words { WordsAreRead }
+    ensures times { TimesAreRead }
+    ensures reached { EachTimeIsReached }
+{}
+
+/// A recording stays as it was: whatever was heard, `goto T` finds the registers and the memory that it would have found
+/// before.
 pub fn a_run_stays_as_it_was()
     ensures { RunStaysAsItWas }
 {}
