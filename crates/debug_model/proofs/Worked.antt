@@ -134,6 +134,18 @@ acknowledged : (dialogue copying 0 (codes "+$?#3f$?#3e--$QStartNoAckMode#b0$?#3f
 unfolding encode_with heard packet_of
 acknowledged = (refl, refl)
 
+-- what is always answered alike; and packets that are none
+constants : dialogue copying 0 (
+    codes "$QStartNoAckMode#b0$qSupported:x#e9$vCont?#49$!#21$Hg0#df$qAttached#8f$G00#a7$X0,0:#1e" ++
+    codes "$qXfer:features:read:target.xml:0,5#80$vMustReplyEmpty#3a$vRun;x;#99$Z5,0,1#48"
+    ) ≡ (
+    codes "+$OK#9a$PacketSize=4000;QStartNoAckMode+;ReverseStep+;ReverseContinue+;qXfer:features:read+;vContSupported+#80" ++
+    codes "$vCont;c;C;s;S;r#0f$OK#9a$OK#9a$1#31$E01#a6$E01#a6" ++
+    codes "$m<?xml#39$#00$E01#a6$#00"
+    )
+unfolding description encode_with decode_pairs heard packet_of
+constants = refl
+
 -- a watchpoint, forward to time 6, and back to 5 and to the beginning
 watched : dialogue copying 0 (
     codes "$QStartNoAckMode#b0$m10000,4#be$Z2,10102,1#09$vCont;c#a8" ++

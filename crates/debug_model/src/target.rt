@@ -1,9 +1,6 @@
-//! The description of the machine's registers.
+//! The description of the machine's registers, as it is written.
 
-ghost use Rattle.std.specs.Prelude.{◌≡◌};
-ghost use Rattle.debug_model.specs.Description.{description};
-
-/// The description's text, which is the definition.
+/// Its text, which is the definition.
 pub(crate) const TEXT: &[u8] = br#"<?xml version="1.0"?>
 <!DOCTYPE target SYSTEM "gdb-target.dtd">
 <target version="1.0">
@@ -46,12 +43,3 @@ pub(crate) const TEXT: &[u8] = br#"<?xml version="1.0"?>
 </feature>
 </target>
 "#;
-
-/// The description of the machine's registers, which a debugger reads: a constant text (GDB manual, appendix G "Target
-/// Descriptions").
-#[tactic(auto, unfolding(crate::specs::Description::description))]
-pub fn description() -> &'static [u8]
-    ensures { result.now ≡ description }
-{
-    TEXT
-}
