@@ -1,5 +1,6 @@
 pub mod Hearing
 mod Travelling
+mod Within
 mod Writing
 mod StateTexts
 mod CommandPackets

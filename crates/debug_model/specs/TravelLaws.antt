@@ -7,11 +7,19 @@ use Rattle.remote_packets.specs.declared.packet.Packet.TheVariants.{LastStop, Re
 use Rattle.remote_packets.specs.declared.packet.Move.{Move}
 use Rattle.remote_packets.specs.declared.packet.Move.TheVariants.{Step, Continue, RangeStep, ReverseStep, ReverseContinue}
 use Rattle.remote_packets.specs.Packets.{packet_of}
+use Rattle.remote_frames.specs.Frames.{Heard}
 use Rattle.run_travel.specs.declared.aim.Aim.{Aim}
 use Rattle.run_travel.specs.declared.aim.Aim.TheVariants as aim
 use Rattle.run_travel.specs.Stops.{PointsAt, pc_at, is_break, stops_after, stops_before}
 use Rattle.debug_model.specs.Sessions.{SessionAt}
 use Rattle.debug_model.specs.Answers.{answer, after}
+use Rattle.debug_model.specs.Dialogues.{next_all, begun_at}
+
+-- ---- within the run
+
+-- whatever is heard, a session stands at a time of the run
+abbrev pub StaysWithin : Type 0
+StaysWithin = (job : Job) (t : ℕ) (hs : List Heard) → (next_all job (begun_at job t) hs).time ≤ steps job.log
 
 -- ---- nothing is passed over
 

@@ -5,7 +5,7 @@ ghost use Rattle.debug_model.specs.CommandLaws.{WordsAreRead, TimesAreRead, Each
 ghost use Rattle.debug_model.specs.DialogueLaws.{BeginningIsBeginning, NothingIsBehindTheEnd};
 ghost use Rattle.debug_model.specs.FrameLaws.{AnswersAreWritten, DialogueIsHeard};
 ghost use Rattle.debug_model.specs.StateLaws.{StateIsOfRun, EachIsAmongAll, RegistersAreRead, MemoryIsBytes};
-ghost use Rattle.debug_model.specs.TravelLaws.{NothingIsPassedForward, NothingIsPassedBack, OnIsTakenBack, StepIsTakenBack, StepBackIsMadeAgain};
+ghost use Rattle.debug_model.specs.TravelLaws.{StaysWithin, NothingIsPassedForward, NothingIsPassedBack, OnIsTakenBack, StepIsTakenBack, StepBackIsMadeAgain};
 ghost use Rattle.debug_model.specs.WriteLaws.{NothingIsWrittenBetween, NothingIsWrittenBefore};
 
 /// What is written for a beginning of the bytes that are read is the beginning of what is written for all of them; and
@@ -35,6 +35,13 @@ pub fn the_state_is_told()
     ensures registers { RegistersAreRead }
     ensures memory { MemoryIsBytes }
 {}
+
+/// Whatever is heard, a session stands at a time of its run: at most the number of the run's steps.
+pub fn a_session_stays_within_its_run()
+    ensures { StaysWithin }
+{
+    run_travel::laws::nothing_is_passed_over();
+}
 
 /// Between the ends of a move no time is a stop: a move forward comes to the first, or to the end of the run, and a move
 /// back to the last, or to the beginning.
