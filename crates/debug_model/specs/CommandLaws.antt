@@ -41,4 +41,6 @@ EachTimeIsReached = (job : Job) (s : SessionAt) (t : ℕ) → t ≤ steps job.lo
 -- nothing that is heard before changes what is told there
 abbrev pub RunStaysAsItWas : Type 0
 RunStaysAsItWas = (job : Job) (s : SessionAt) (hs : List Heard) (t : ℕ) → t ≤ steps job.log → t < 2 ^ 64
-    → TellSameState job (after job (next_all job s hs) (command_packet (goto_words t))) (after job s (command_packet (goto_words t)))
+    → TellSameState job
+    (after job (next_all job s hs) (command_packet (goto_words t)))
+    (after job s (command_packet (goto_words t)))

@@ -7,8 +7,8 @@ use Rattle.debug_model.specs.declared.target.TheConstants.{TEXT}
 unfoldable pub description : List ℕ
 description = TEXT.now
 
--- so many of its bytes from an offset on, as far as there are: behind `l` where the last is among them, or none is left,
--- else behind `m`
+-- so many of its bytes from an offset on, as far as there are: behind `l` where the last is among them, or none is
+-- left, else behind `m`
 abbrev pub part_text : ℕ → ℕ → List ℕ
 part_text offset length_asked =
     (if nat_lt (offset + length_asked) (length description) then codes "m" else codes "l") ++

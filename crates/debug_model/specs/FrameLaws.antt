@@ -7,7 +7,8 @@ use Rattle.debug_model.specs.Sessions.{SessionAt}
 use Rattle.debug_model.specs.Answers.{answer}
 use Rattle.debug_model.specs.Dialogues.{next, next_all, begun_at, up_to_end, dialogue}
 
--- a byte that stands for itself: none of `#` and `$`, which frames have, and of `}` and `*`, which escapes and runs have
+-- a byte that stands for itself: none of `#` and `$`, which frames have, and of `}` and `*`, which escapes and runs
+-- have
 abbrev pub stands_for_itself : ℕ → Bool
 stands_for_itself byte = not (byte == 0x23 || byte == 0x24 || byte == 0x7d || byte == 0x2a)
 
@@ -21,8 +22,8 @@ abbrev pub AnswersAreWritten : Type 0
 AnswersAreWritten = (job : Job) (t : ℕ) (hs : List Heard) (bytes : List ℕ)
     → All IsWritten (answer job (next_all job (begun_at job t) hs) bytes)
 
--- what is to be heard of what is told: the packets of an answer; that a frame was bad, so that it is wanted again; and the
--- last answer
+-- what is to be heard of what is told: the packets of an answer; that a frame was bad, so that it is wanted again; and
+-- the last answer
 abbrev pub replies : Job → SessionAt → Heard → List Heard
 replies job s (Packet bytes) = map Packet (answer job s bytes)
 replies job s Bad = if s.acknowledged then Again ∷ [] else []

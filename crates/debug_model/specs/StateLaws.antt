@@ -23,7 +23,8 @@ abbrev pub job_of : (program : List ℕ) (log : Log) → Fits program log → Jo
 job_of program log fits = record { start = fits.start; log = log }
 
 -- registers and memory are told of it
-pub record TellsRun (program : List ℕ) (log : Log) (fits : Fits program log) (s : SessionAt) (bytes : List ℕ) : Type 0 where
+pub record TellsRun (program : List ℕ) (log : Log) (fits : Fits program log) (s : SessionAt) (bytes : List ℕ)
+    : Type 0 where
   pub all : packet_of bytes ≡ Registers
       → answer (job_of program log fits) s bytes ≡ registers_text (run_state program log fits s.time) ∷ []
   pub one : (n : ℕ) → packet_of bytes ≡ Register n

@@ -11,8 +11,8 @@ pub enum Command {
     Calls,
     /// To go to a time: `goto T`. None where what stands there is no number.
     GoTo(Option<u64>),
-    /// The step that read a byte, by its channel and its offset there: `read C:O`. None where what stands there isn't two
-    /// numbers.
+    /// The step that read a byte, by its channel and its offset there: `read C:O`. None where what stands there isn't
+    /// two numbers.
     Read(Option<(u64, u64)>),
     /// The step that wrote one: `wrote C:O`.
     Wrote(Option<(u64, u64)>),

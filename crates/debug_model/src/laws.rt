@@ -17,8 +17,8 @@ pub fn dialogues_grow()
     remote_frames::laws::beginning_is_heard();
 }
 
-/// The packets of answers have none of `#`, `$`, `}` and `*` inside, and 16384 bytes at most; and what is written is heard
-/// as them, in order.
+/// The packets of answers have none of `#`, `$`, `}` and `*` inside, and 16384 bytes at most; and what is written is
+/// heard as them, in order.
 pub fn answers_are_heard()
     ensures written { AnswersAreWritten }
     ensures heard { DialogueIsHeard }
@@ -43,8 +43,8 @@ pub fn a_session_stays_within_its_run()
     run_travel::laws::nothing_is_passed_over();
 }
 
-/// Between the ends of a move no time is a stop: a move forward comes to the first, or to the end of the run, and a move
-/// back to the last, or to the beginning.
+/// Between the ends of a move no time is a stop: a move forward comes to the first, or to the end of the run, and a
+/// move back to the last, or to the beginning.
 pub fn nothing_is_passed_over()
     ensures forward { NothingIsPassedForward }
     ensures back { NothingIsPassedBack }
@@ -75,15 +75,15 @@ pub fn commands_are_read()
     ensures reached { EachTimeIsReached }
 {}
 
-/// A recording stays as it was: whatever was heard, `goto T` finds the registers and the memory that it would have found
-/// before.
+/// A recording stays as it was: whatever was heard, `goto T` finds the registers and the memory that it would have
+/// found before.
 pub fn a_run_stays_as_it_was()
     ensures { RunStaysAsItWas }
 {}
 
-/// Who wrote: between the time to which a move back came, and the time from which it came, the bytes of a watchpoint that
-/// looks for writes stay the same, but for the step that was taken back. Where the move is told the beginning, they are the
-/// same at all times before.
+/// Who wrote: between the time to which a move back came, and the time from which it came, the bytes of a watchpoint
+/// that looks for writes stay the same, but for the step that was taken back. Where the move is told the beginning,
+/// they are the same at all times before.
 pub fn who_wrote()
     ensures between { NothingIsWrittenBetween }
     ensures before { NothingIsWrittenBefore }
@@ -92,8 +92,8 @@ pub fn who_wrote()
     run_travel::laws::nothing_is_passed_over();
 }
 
-/// The step that `read` or `wrote` tells of a byte moved it. Where none is told, the run moved no more bytes that way on
-/// the channel.
+/// The step that `read` or `wrote` tells of a byte moved it. Where none is told, the run moved no more bytes that way
+/// on the channel.
 pub fn the_step_of_a_byte_is_told()
     ensures { StepOfByteIsTold }
 {
