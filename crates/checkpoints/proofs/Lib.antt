@@ -1,7 +1,7 @@
 mod Splitting
 mod Holding
 mod Rising
-mod Writing
+pub mod Writing
 mod Untouched
 mod Standing
 mod Taking

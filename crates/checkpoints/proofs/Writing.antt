@@ -56,12 +56,14 @@ module _ (mem : List ℕ) (j : ℕ) (bs : List ℕ) (h : j + length bs ≤ lengt
 pub record Changes (s t : State) (bytes : Span) : Type 0 where
   pub base : t.base ≡ s.base
   pub size : length t.memory ≡ length s.memory
+  pub inside : 0 < bytes.size → Holds s.base (length s.memory) bytes.place bytes.size
   pub kept : (k : ℕ) → (0 < bytes.size → (k < bytes.place - s.base) ⊎ (bytes.place - s.base + bytes.size ≤ k)) → get_or t.memory k 0 ≡ get_or s.memory k 0
 
 same_memory : (s t : State) (a n : ℕ) → n ≡ 0 → t.base ≡ s.base → t.memory ≡ s.memory → Changes s t (span a n)
 same_memory s t a n e base memory = record {
   base = base;
   size = ap length memory;
+  inside = λ some. absurd (omega (arith, e));
   kept = λ k out. ap (λ (m : List ℕ). get_or m k 0) memory;
 }
 
@@ -73,6 +75,7 @@ put_some s t a n bytes few h some base memory =
     record {
       base = base;
       size = ap length memory ∙ over_length s.memory (a - s.base) bytes room;
+      inside = λ more. h;
       kept = λ k out. ap (λ (m : List ℕ). get_or m k 0) memory ∙ by room k (out some);
     }
   where

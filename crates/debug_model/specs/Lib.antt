@@ -1,0 +1,15 @@
+pub mod Sessions
+pub mod StopTexts
+pub mod Arrivals
+pub mod States
+pub mod Description
+pub mod Commands
+pub mod Answers
+pub mod Dialogues
+pub mod DialogueLaws
+pub mod TravelLaws
+pub mod CommandLaws
+pub mod StateLaws
+pub mod WriteLaws
+pub mod FrameLaws
+pub mod ByteLaws
