@@ -2,7 +2,8 @@
 //!
 //! Crates above rest on this: `obey` does what words stand for, and ends with its text delivered whole, or with a refusal
 //! that has its cause; `conclude` gives the status of what came of a command, and says its line; `mark_for` gives what a
-//! file begins with that the command of the words may replace; `read_file` gives what a file holds.
+//! file begins with that the command of the words may replace; `read_file` gives what a file holds, and `open_run` the
+//! program and the log that two files hold.
 //!
 //! What there is to read stands in specs/: Plans.antt has for each command what it reads, what its files come to, and where
 //! that goes; Answers.antt the texts; Outcome.antt what the outcome of calls that read files says of the files; Ending.antt
@@ -33,4 +34,5 @@ mod tellings;
 pub use command::obey;
 pub use ending::conclude;
 pub use mark::mark_for;
+pub use opening::{Run, open_run};
 pub use reading::read_file;
