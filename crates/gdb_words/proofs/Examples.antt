@@ -1,5 +1,5 @@
 -- Lines of words, and the request that each stands for. The words of a line stand between single spaces.
-use Rattle.std.proofs.Common.{◌≡◌, refl, true, false, ℕ, Bool, List, [], ◌∷◌, map, Some, None, is_none, codes, nat_eq}
+use Rattle.std.proofs.Common.{◌≡◌, refl, true, false, ℕ, Bool, List, [], ◌∷◌, map, Some, is_none, codes, nat_eq}
 use Rattle.std.specs.List.{list_all}
 use Rattle.std.specs.Str.{chars}
 use Rattle.clap.specs.Words.{Text}

@@ -1,6 +1,6 @@
 -- Words that the command line takes stand for a request, whose time is in its range.
-use Rattle.std.proofs.Common.{◌≡◌, ◌≤◌, ◌∙◌, ap, sym, refl, subst, true, false, List, [], codes, Some, None, IfErr}
-use Rattle.clap.specs.Words.{Row, Text, matches_of, takes}
+use Rattle.std.proofs.Common.{◌≡◌, sym, refl, subst, true, false, List, codes, Some, None}
+use Rattle.clap.specs.Words.{Text, matches_of, takes}
 use Rattle.clap.specs.Walk.{Names, rows_after}
 use Rattle.clap.specs.Simple.{argument_words, built}
 use Rattle.no_memory.specs.declared.Fault.{Fault}
