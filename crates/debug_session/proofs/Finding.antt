@@ -1,10 +1,10 @@
 -- The step that moved a byte, call by call.
-use Rattle.std.proofs.Common.{◌≡◌, ℕ, ◌+◌, ◌<◌, ◌≤◌, ◌⊎◌, inl, inr, List, [], ◌∷◌, ◌++◌, length, get_or, take, drop, refl, ap, sym, ◌∙◌, arith, Bool, true, false, ℤ, pos, negsuc, slice_index}
-use Rattle.std.specs.Prelude.{◌==◌, ◌&&◌, nat_le, nat_lt, if◌then◌else◌, Option, Some, None, option_map}
-use Rattle.std.specs.List.{find, flat_map}
+use Rattle.std.proofs.Common.{◌≡◌, ℕ, ◌+◌, ◌<◌, ◌≤◌, ◌⊎◌, inl, inr, List, [], ◌∷◌, ◌++◌, length, get_or, take, drop, refl, ap, sym, ◌∙◌, arith, Bool, true, false, pos, negsuc}
+use Rattle.std.specs.Prelude.{◌==◌, nat_le, nat_lt, if◌then◌else◌, Option, Some, option_map}
+use Rattle.std.specs.List.{find}
 use Rattle.std.proofs.lemmas.Bool.{cases_Bool, eqb-true}
 use Rattle.std.proofs.lemmas.Bool.Decides.{nat_tests}
-use Rattle.std.proofs.lemmas.List.{append-nil, flat_map_more, drop_more, take_more}
+use Rattle.std.proofs.lemmas.List.{drop_more, take_more}
 use Rattle.log_model.specs.declared.CallRecord.{CallRecord}
 use Rattle.log_model.specs.declared.CallRecord.TheVariants.{Read, Write, Clock, Other}
 use Rattle.log_model.specs.Logs.{at_of, IsRecord, moved_length}
@@ -13,8 +13,8 @@ use Rattle.replay_model.proofs.Sizes.{moved_with}
 use Rattle.run_output.specs.declared.ways.Way.{Way}
 use Rattle.run_output.specs.declared.ways.Way.TheVariants.{Received, Written}
 use Rattle.run_output.specs.Ways.{moved, moved_by}
-use Rattle.run_output.specs.Lines.{Piece, Line, line_of, counts_of, lines_after, piece}
-use Rattle.run_output.specs.Pieces.{piece_on, pieces_on}
+use Rattle.run_output.specs.Lines.{Piece, counts_of, lines_after, piece}
+use Rattle.run_output.specs.Pieces.{pieces_on}
 use Rattle.debug_model.specs.Commands.{has_byte}
 
 abbrev pub step : Option Piece → Option ℕ
@@ -70,11 +70,11 @@ piece_of way done at args bytes = piece at args (counts_of done way (channel_of 
 miss_line : (way : Way) (c o : ℕ) (done : List CallRecord) (at : ℕ) (args bytes : List ℕ) (pieces : List Piece)
     → length (moved way c done) + length (on (channel_of args == c) bytes) ≤ o
     → find (has_byte o) (pieces_if (channel_of args == c) (piece_of way done at args bytes) ++ pieces)
-      ≡ find (has_byte o) pieces
+    ≡ find (has_byte o) pieces
 miss_line way c o done at args bytes pieces past = by (cases_Bool (channel_of args == c)) where
   by : ((channel_of args == c) ≡ true) ⊎ ((channel_of args == c) ≡ false)
       → find (has_byte o) (pieces_if (channel_of args == c) (piece_of way done at args bytes) ++ pieces)
-        ≡ find (has_byte o) pieces
+      ≡ find (has_byte o) pieces
   by (inl same) =
       let counts = ap (λ (k : ℕ). length (moved way k done)) (eqb-true (channel_of args) c same) in
       miss_if (channel_of args == c) (piece_of way done at args bytes) o pieces (omega (arith, past, counts))
@@ -83,11 +83,11 @@ miss_line way c o done at args bytes pieces past = by (cases_Bool (channel_of ar
 hit_line : (way : Way) (c o : ℕ) (done : List CallRecord) (at : ℕ) (args bytes : List ℕ) (pieces : List Piece)
     → length (moved way c done) ≤ o → o < length (moved way c done) + length (on (channel_of args == c) bytes)
     → find (has_byte o) (pieces_if (channel_of args == c) (piece_of way done at args bytes) ++ pieces)
-      ≡ Some (piece_of way done at args bytes)
+    ≡ Some (piece_of way done at args bytes)
 hit_line way c o done at args bytes pieces from below = by (cases_Bool (channel_of args == c)) where
   by : ((channel_of args == c) ≡ true) ⊎ ((channel_of args == c) ≡ false)
       → find (has_byte o) (pieces_if (channel_of args == c) (piece_of way done at args bytes) ++ pieces)
-        ≡ Some (piece_of way done at args bytes)
+      ≡ Some (piece_of way done at args bytes)
   by (inl same) =
       let counts = ap (λ (k : ℕ). length (moved way k done)) (eqb-true (channel_of args) c same) in
       hit_if (channel_of args == c) (piece_of way done at args bytes) o pieces (omega (arith, from, counts))
@@ -158,7 +158,7 @@ pub call_passed : (way : Way) (c o left : ℕ) (rs : List CallRecord) (i : ℕ) 
     → found way c o (take (i + 1) rs) (drop (i + 1) rs) ≡ found way c o (take i rs) (drop i rs)
 call_passed way c o left rs i call inside here sum past =
     let more : take (i + 1) rs ≡ take i rs ++ call ∷ [] =
-        take_more rs i call inside ∙ ap (λ (r : CallRecord). take i rs ++ r ∷ []) (sym here) in
+    take_more rs i call inside ∙ ap (λ (r : CallRecord). take i rs ++ r ∷ []) (sym here) in
     ap (λ (qs : List CallRecord). found way c o qs (drop (i + 1) rs)) more
     ∙ sym (miss way c o (take i rs) call (drop (i + 1) rs) (omega (arith, sum, past)))
     ∙ sym (at_call way c o rs i call inside here)

@@ -1,7 +1,8 @@
 //! Commands in words: what they are told.
 
-ghost use Rattle.std.specs.Prelude.{◌≡◌, IfOk};
+ghost use Rattle.std.specs.Prelude.{◌≡◌, ◌≤◌, IfOk, IfSome};
 ghost use Rattle.std.specs.Option.{option_and_then};
+ghost use Rattle.log_model.specs.Logs.{steps};
 ghost use Rattle.debug_model.specs.Commands.{step_of_byte as step_of_log, time_within as time_within_log};
 ghost use Rattle.debug_model.specs.Commands.{number_line as line_of_number, found_line as line_of_found, command_text as text_of_command, time_asked as time_of_command};
 
@@ -24,7 +25,8 @@ const COMMANDS: &[u8] = b"time | steps | calls | goto T | read C:O | wrote C:O\n
 
 /// A time of the run: at most the number of its steps.
 fn time_within(job: &Job, time: Option<u64>) -> Option<u64>
-    ensures { result ≡ option_and_then (time_within_log job.now.log) time }
+    ensures time { result ≡ option_and_then (time_within_log job.now.log) time }
+    ensures within { IfSome result (λ time. time ≤ steps job.now.log) }
 {
     time.filter(|time| *time <= job.steps())
 }
@@ -79,7 +81,8 @@ pub(crate) fn command_text(
 
 /// The time to which a command goes, if it does.
 pub(crate) fn time_asked(job: &Job, asked: Command) -> Option<u64>
-    ensures { result ≡ time_of_command job.now.log asked }
+    ensures asked { result ≡ time_of_command job.now.log asked }
+    ensures within { IfSome result (λ time. time ≤ steps job.now.log) }
 {
     match asked {
         Command::GoTo(to) => time_within(job, to),

@@ -46,11 +46,7 @@ fn push_part(
 }
 
 /// Appends the frames of the packets that tell a command's text. It gives up with NoMemory alone.
-pub(crate) fn push_console(
-    alloc: Global,
-    frames: &mut Vec<u8>,
-    text: &[u8],
-) -> Result<(), NoMemory>
+pub(crate) fn push_console(alloc: Global, frames: &mut Vec<u8>, text: &[u8]) -> Result<(), NoMemory>
     ensures { OnOk result (frames.new.items ≡ frames.old.items ++ flat_map frame (console_packets text.now)) }
 {
     for number in 0..count_of_parts(text) {

@@ -1,7 +1,7 @@
 use Rattle.std.proofs.Common.{◌≡◌, ◌<◌, ◌^◌, drop}
 use Rattle.std.specs.List.{list_all}
 use Rattle.std.specs.Char.{is_ascii_digit}
-use Rattle.debug_session.proofs.Numbers.{most, within}
+use Rattle.debug_session.proofs.Numbers.{within}
 use Rattle.debug_session.proofs.number.number_of.Given as goal
 
 -- what is left has the value and the digits of the whole

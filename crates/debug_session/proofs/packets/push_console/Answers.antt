@@ -1,4 +1,3 @@
-use Rattle.std.proofs.Common.{arith}
 use Rattle.remote_frames.specs.Frames.{frame}
 use Rattle.debug_model.specs.Answers.{console_packet}
 use Rattle.debug_session.proofs.Ranges.{flat_map_next_of}
