@@ -11,8 +11,8 @@ pub record SessionOf : Type 0 where
   pub job : Job
   pub at : SessionAt
 
--- the packets of the answer, by where the session stands after it: those by where it stood before, but for a move, which
--- is told the stop where it came to
+-- the packets of the answer, by where the session stands after it: those by where it stood before, but for a move,
+-- which is told the stop where it came to
 abbrev pub answer_after : Job → SessionAt → List ℕ → Packet → List (List ℕ)
 answer_after job s bytes (Go move) = s.stop ∷ []
 answer_after job s bytes asked = answer_to job s bytes asked

@@ -232,7 +232,12 @@ impl<'a> Session<'a> {
     }
 
     /// Makes the changes that a packet asks for, and appends the frames of its answer.
-    fn respond(&mut self, asked: Packet, packet: &[u8], frames: &mut Vec<u8>) -> Result<(), NoMemory>
+    fn respond(
+        &mut self,
+        asked: Packet,
+        packet: &[u8],
+        frames: &mut Vec<u8>,
+    ) -> Result<(), NoMemory>
         ensures answered { OnOk result (frames.new.items ≡ frames.old.items
             ++ flat_map frame (answer_to self.old.job self.old.at packet.now asked)) }
         ensures changed { OnOk result (self.new ≡ record {
@@ -279,7 +284,8 @@ impl<'a> Session<'a> {
         Ok(is_last(asked))
     }
 
-    /// Answers what a framer told: a packet of these bytes, a bad frame, that the last answer is wanted again, or nothing.
+    /// Answers what a framer told: a packet of these bytes, a bad frame, that the last answer is wanted again, or
+    /// nothing.
     /// It appends the bytes that are to be written, and answers whether the session is over. It gives up with NoMemory
     /// alone; then neither where the session stands is known nor what was appended.
     pub fn hear(
