@@ -1,6 +1,6 @@
 -- Programs and runs, as the definitions see them.
 use Rattle.elf_image.specs.declared.program.Program.{Program as Opened}
-use Rattle.jet_commands.specs.declared.opening.Run.{Run as OpenedRun}
+use Rattle.command_parts.specs.declared.opening.Run.{Run as OpenedRun}
 use Rattle.jet_model.specs.Contents.{Program, Run}
 
 abbrev pub program_of : Opened → Program

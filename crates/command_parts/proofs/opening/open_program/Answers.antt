@@ -2,11 +2,11 @@ use Rattle.std.proofs.Common.{ap, subst, Ok, Err, ℕ, List}
 use Rattle.std.proofs.lemmas.Result.{err_from_is_err_and}
 use Rattle.jet_model.specs.Contents.{file_at, program_in}
 use Rattle.jet_model.proofs.Files.{program_in-image}
-use Rattle.jet_commands.specs.Outcome.{IsWork}
-use Rattle.jet_commands.specs.Views.{program_of}
-use Rattle.jet_commands.proofs.Read.{no_program}
-use Rattle.jet_commands.proofs.Composing.{outcome_of-stops, outcome_of-work}
-use Rattle.jet_commands.proofs.opening.open_program.Goals as goal
+use Rattle.command_parts.specs.Outcome.{IsWork}
+use Rattle.command_parts.specs.Views.{program_of}
+use Rattle.command_parts.proofs.Read.{no_program}
+use Rattle.command_parts.proofs.Composing.{outcome_of-stops, outcome_of-work}
+use Rattle.command_parts.proofs.opening.open_program.Goals as goal
 
 pub returns-in_err-bytes-clause-outcome : goal.returns-in_err-bytes-clause-outcome
 returns-in_err-bytes-clause-outcome g c =

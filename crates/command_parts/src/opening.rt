@@ -2,8 +2,8 @@
 ghost use Rattle.std.specs.Prelude.{◌≡◌, ◌≤◌, ◌^◌, ◌∷◌, [], true, length, is_ok, IfOk};
 ghost use Rattle.outer_io.specs.Reads.{Reads};
 ghost use Rattle.jet_model.specs.Contents.{log_in, program_at, log_at, run_at};
-ghost use Rattle.jet_commands.specs.Outcome.{IsOutcomeOf, IsWork, seen_by};
-ghost use Rattle.jet_commands.specs.Views.{program_of, run_of};
+ghost use Rattle.command_parts.specs.Outcome.{IsOutcomeOf, IsWork, seen_by};
+ghost use Rattle.command_parts.specs.Views.{program_of, run_of};
 
 use crate::reading::read_file;
 use elf_image::Program;

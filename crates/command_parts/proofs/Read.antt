@@ -15,7 +15,7 @@ use Rattle.jet_refusal.specs.declared.refusal.Refusal.TheVariants as refusal
 use Rattle.jet_model.specs.Contents.{program_in, log_in}
 use Rattle.jet_model.proofs.Files.{program_in-fault, log_in-fault}
 use Rattle.jet_refusal.specs.Faults.{IsRefusalOf}
-use Rattle.jet_commands.specs.Outcome.{IsWork}
+use Rattle.command_parts.specs.Outcome.{IsWork}
 
 pub no_program : (bytes : List ℕ) (fault : Fault ImageKind) (r : Refusal) → IsCausedBy (λ kind. image bytes ≡ Err kind) fault
     → IsRefusalOf (λ kind given. given ≡ refusal.Image kind) fault r → IsWork (program_in bytes) (Err r)

@@ -3,8 +3,8 @@ use Rattle.std.proofs.lemmas.Result.{err_from_is_err_and}
 use Rattle.log_model.specs.Logs.{IsBytes}
 use Rattle.log_model.proofs.Words.{IsBytes-each}
 use Rattle.jet_model.proofs.Files.{log_in-log}
-use Rattle.jet_commands.proofs.Read.{no_log}
-use Rattle.jet_commands.proofs.opening.log_of.Goals as goal
+use Rattle.command_parts.proofs.Read.{no_log}
+use Rattle.command_parts.proofs.opening.log_of.Goals as goal
 
 pub returns-in_err-read_log : goal.returns-in_err-read_log
 returns-in_err-read_log c =

@@ -2,7 +2,7 @@
 ghost use Rattle.std.specs.Prelude.{◌≡◌, ◌≤◌, ◌^◌, ◌∷◌, [], true, length, IfOk};
 ghost use Rattle.outer_io.specs.Reads.{Reads};
 ghost use Rattle.jet_model.specs.Contents.{file_at};
-ghost use Rattle.jet_commands.specs.Outcome.{IsOutcomeOf, seen_by, bytes_of};
+ghost use Rattle.command_parts.specs.Outcome.{IsOutcomeOf, seen_by, bytes_of};
 
 use jet_refusal::Refusal;
 use no_memory::Fault;

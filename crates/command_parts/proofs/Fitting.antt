@@ -23,7 +23,7 @@ use Rattle.replay_model.specs.declared.Misfit.{Misfit}
 use Rattle.replay_model.specs.declared.Misfit.TheVariants.{WrongProgram, Window, Diverged}
 use Rattle.replayer.specs.Checks.{IsMisfit}
 use Rattle.jet_refusal.specs.Faults.{misfit_refusal, IsRefusalOf}
-use Rattle.jet_commands.specs.Outcome.{IsWork}
+use Rattle.command_parts.specs.Outcome.{IsWork}
 
 abbrev digest_if : Bool → List ℕ → List ℕ → Result (Unit {0}) Refusal
 digest_if b kept seen = if b then Ok tt else Err (refusal.Program kept seen)

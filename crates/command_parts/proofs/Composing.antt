@@ -12,7 +12,7 @@ use Rattle.jet_refusal.proofs.Causes.{IsOwedTo-map}
 use Rattle.jet_model.specs.Outcomes.{and_then}
 use Rattle.jet_model.specs.Contents.{Contents}
 use Rattle.jet_model.proofs.AndThen.{and_then-ok, and_then-err}
-use Rattle.jet_commands.specs.Outcome.{HeldBefore, by_reading, IsOutcomeBy, IsOutcomeOf, IsWork}
+use Rattle.command_parts.specs.Outcome.{HeldBefore, by_reading, IsOutcomeBy, IsOutcomeOf, IsWork}
 
 -- ---- what is told
 

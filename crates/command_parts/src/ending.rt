@@ -1,7 +1,7 @@
 //! The end of a command: its status, and its line on standard error.
 ghost use Rattle.std.specs.Prelude.{◌≡◌, IfErr, OnOk};
 ghost use Rattle.jet_refusal.specs.Refusals.{line_of};
-ghost use Rattle.jet_commands.specs.Ending.{status_after, Says};
+ghost use Rattle.command_parts.specs.Saying.{status_after, Says};
 
 use jet_refusal::Refusal;
 use outer_io::{Sink, write_whole};

@@ -5,9 +5,9 @@ use Rattle.log_model.specs.Logs.{Log}
 use Rattle.jet_refusal.specs.declared.refusal.Refusal.{Refusal}
 use Rattle.jet_model.specs.Outcomes.{and_then}
 use Rattle.jet_model.specs.Contents.{Contents, Program, Run, program_at, log_at}
-use Rattle.jet_commands.specs.Views.{program_of}
-use Rattle.jet_commands.proofs.Composing.{outcome_of-stops, outcome_of-then}
-use Rattle.jet_commands.proofs.opening.open_run.Goals as goal
+use Rattle.command_parts.specs.Views.{program_of}
+use Rattle.command_parts.proofs.Composing.{outcome_of-stops, outcome_of-then}
+use Rattle.command_parts.proofs.opening.open_run.Goals as goal
 
 -- the run of a program and a log
 abbrev log_with : Program → Log → Result Run Refusal
