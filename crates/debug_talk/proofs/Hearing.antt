@@ -1,15 +1,21 @@
 -- One byte more, by what the reader of frames tells.
 use Rattle.std.proofs.Common.{◌≡◌, ◌∙◌, ap, sym, refl, ℕ, Bool, true, false, ◌||◌, List, [], ◌∷◌, ◌++◌, append-nil}
+use Rattle.std.specs.Prelude.{Err}
 use Rattle.std.specs.List.{list_any}
+use Rattle.no_memory.specs.declared.Fault.TheVariants.{NoMemory}
+use Rattle.no_memory.specs.declared.NoMemory.{NoMemory as OutOfMemory}
+use Rattle.outer_io.proofs.TellsLemmas.{tells-same}
+use Rattle.outer_wire.specs.Wires.{Passed, Came, WireShown}
 use Rattle.replayer.specs.Jobs.{Job}
 use Rattle.remote_frames.specs.Frames.{Heard, Packet, Bad, Again, heard}
 use Rattle.remote_frames.specs.Reading.{FramerAt, begun, told as told_by}
 use Rattle.remote_frames.specs.declared.framer.Framed.{Framed}
 use Rattle.remote_frames.specs.declared.framer.Framed.TheVariants as framed
 use Rattle.debug_model.specs.Sessions.{SessionAt}
-use Rattle.debug_model.specs.Dialogues.{told, next, told_all, next_all, up_to_end, is_end}
+use Rattle.debug_model.specs.Dialogues.{told, next, told_all, next_all, up_to_end, is_end, begun_at}
 use Rattle.debug_session.specs.Sessions.{SessionOf}
-use Rattle.outer_wire.specs.Talks.{Answers, GoesOn, Hears, left_by}
+use Rattle.outer_wire.specs.Talks.{Answers, GoesOn, Hears, left_by, Gained, IsTalkInPart, Talks}
+use Rattle.debug_talk.specs.Debugging.{answers_of}
 use Rattle.debug_talk.specs.Listening.{answers_from}
 
 -- what is said where this is heard from now on
@@ -91,3 +97,29 @@ silent f s e = ap (λ (bytes : List ℕ). said_to s.job s.at (heard bytes)) (app
 
 pub goes_on : (f : FramerAt) (s : SessionOf) → heard (begun f) ≡ [] → (answers_from f s).ends [] ≡ false
 goes_on f s e = ap (λ (bytes : List ℕ). list_any is_end (heard bytes)) (append-nil (begun f)) ∙ ap (list_any is_end) e
+
+-- ---- from the beginning
+
+-- who has read nothing yet, and whose session begins, says the dialogue
+pub at_beginning : (f : FramerAt) (s : SessionOf) (job : Job) (t : ℕ) → begun f ≡ [] → s ≡ record { job = job; at = begun_at job t } → answers_from f s ≡ answers_of job t
+at_beginning f s job t none e =
+    ap (answers_from f) e
+    ∙ ap (λ (front : List ℕ). record {
+      says = λ (bytes : List ℕ). said_to job (begun_at job t) (heard (front ++ bytes));
+      ends = λ (bytes : List ℕ). list_any is_end (heard (front ++ bytes));
+    }) none
+
+no_nil : (before after : List Passed) (y : Passed) → [] ≡ before ++ y ∷ after → ⊥
+no_nil [] after y e = cc
+no_nil (b ∷ before) after y e = cc
+
+-- memory ran out before anything was heard
+pub not_begun : (a : Answers) (w : WireShown) (no_memory : OutOfMemory) → Talks {T = Unit {0}} a w w (Err (NoMemory no_memory))
+not_begun a w no_memory = record {
+  told = tells-same w.history (Gained (IsTalkInPart a)) (λ x. record {
+    passed = [];
+    gains = sym (append-nil x);
+    so = record { part = refl; in_turn = λ before after bytes e. absurd (no_nil before after (Came bytes) e) };
+  });
+  faults = refl;
+}

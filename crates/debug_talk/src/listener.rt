@@ -21,7 +21,7 @@ impl<'a> Listener<'a> {
     /// Who has read nothing yet, and answers by this session.
     pub(crate) fn new(alloc: Global, session: Session<'a>) -> Listener<'a>
         ensures framer { begun result.framer ≡ [] }
-        ensures session { result.session ≡ session }
+        ensures session { result.session ≡ session.entry }
     {
         Listener {
             framer: Framer::new(alloc),
