@@ -4,7 +4,7 @@ use Rattle.jet_refusal.specs.declared.refusal.Refusal.{Refusal}
 use Rattle.jet_refusal.specs.declared.refusal.Refusal.TheVariants as refusal
 use Rattle.jet_refusal.specs.Refusals.{status_of}
 use Rattle.jet_refusal.specs.Causes.{Causes, IsOwedTo}
-use Rattle.jet_commands.specs.Ending.{status_after}
+use Rattle.command_parts.specs.Saying.{status_after}
 use Rattle.jet_cli.specs.Statuses.{IsStatus}
 
 pub status_of-range : (r : Refusal) → (2 ≤ status_of r) × (status_of r ≤ 11)

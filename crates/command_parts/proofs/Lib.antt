@@ -1,0 +1,3 @@
+pub mod Composing
+pub mod Fitting
+mod Read

@@ -1,0 +1,2 @@
+-- How the call ends.
+use Rattle.std.proofs.Common.{◌≡◌, refl}

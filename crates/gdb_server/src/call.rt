@@ -1,0 +1,44 @@
+//! The call: words, and an outside.
+
+ghost use Rattle.std.specs.Prelude.{◌≡◌, ◌≤◌, ◌⊎◌, false, map, string_bytes};
+ghost use Rattle.clap.specs.Words.{takes};
+ghost use Rattle.command_parts.specs.Saying.{Says};
+ghost use Rattle.gdb_words.specs.Requests.{gdb_app};
+ghost use Rattle.gdb_server.specs.Serving.{change, request_in, names_of, IsStatus, IsDone, IsRefused, IsTalkedInPart, Opens};
+
+use crate::serve::serve;
+use command_parts::conclude;
+use gdb_words::read_words;
+use jet_refusal::Refusal;
+use no_memory::Fault;
+use outer_io::{Sink, Store};
+use outer_wire::Wire;
+use std::alloc::Global;
+
+/// What the words stand for is done; of these the first is the program's name.
+fn obey<S: Store, W: Wire>(
+    alloc: Global,
+    words: &[String],
+    store: &mut S,
+    wire: &mut W,
+) -> Result<(), Refusal> {
+    match read_words(alloc, words) {
+        Ok(request) => serve(alloc, request, store, wire),
+        Err(Fault::At(_)) => Err(Refusal::Usage),
+        Err(Fault::NoMemory(no_memory)) => Err(Refusal::NoMemory(no_memory)),
+    }
+}
+
+/// All that the program does, but for what `main` makes: the words begin with the program's name. The log is checked, and
+/// then the run is debugged over the wire (docs/FORMATS.md). The status is 0 where the session ended, or the wire was found
+/// at its end, and else says why not, as does one line on `err`.
+pub fn jet_gdb<S: Store, W: Wire, E: Sink>(
+    alloc: Global,
+    words: &[String],
+    store: &mut S,
+    wire: &mut W,
+    err: &mut E,
+) -> u8 {
+    let outcome = obey(alloc, words, store, wire);
+    conclude(err, outcome)
+}
