@@ -1,10 +1,12 @@
 //! The call: words, and an outside.
 
-ghost use Rattle.std.specs.Prelude.{◌≡◌, ◌≤◌, ◌⊎◌, false, map, string_bytes};
+ghost use Rattle.std.specs.Prelude.{◌≡◌, ◌≤◌, ◌⊎◌, false, map, nat_eq, string_bytes, Err, IsErrAnd};
 ghost use Rattle.clap.specs.Words.{takes};
+ghost use Rattle.outer_io.specs.Reads.{Reads};
+ghost use Rattle.jet_refusal.specs.Faults.{IsOutOfMemory};
 ghost use Rattle.command_parts.specs.Saying.{Says};
 ghost use Rattle.gdb_words.specs.Requests.{gdb_app};
-ghost use Rattle.gdb_server.specs.Serving.{change, request_in, names_of, IsStatus, IsDone, IsRefused, IsTalkedInPart, Opens};
+ghost use Rattle.gdb_server.specs.Serving.{change, request_in, names_in, Obeys, IsStatus, IsDone, IsRefused, IsSoFar};
 
 use crate::serve::serve;
 use command_parts::conclude;
