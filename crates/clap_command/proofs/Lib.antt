@@ -5,3 +5,4 @@ mod Fit
 mod ValueLemmas
 pub mod Rows
 pub mod Subcommands
+pub mod Single

@@ -16,7 +16,7 @@ use Rattle.clap.specs.Simple.{App, Shape, built, argument_words, is_simple, labe
 use Rattle.clap.specs.Takes.{value_passes, values_pass, count_passes, set_passes, action_passes, use_passes, settle_passes, react_passes, option_passes, long_passes, short_passes, bundle_step_passes, flags_pass, bundle_passes, flag_word_passes, other_passes, word_passes, positional_passes, step_passes, turn_passes, walk_passes, is_given, level_passes, entered_passes, built_takes, takes}
 use Rattle.clap.specs.Kinds.{Kinds, or_else, range_kinds, value_kinds, check_kinds}
 use Rattle.clap.specs.Faults.{values_fault, count_fault, set_fault, action_fault, use_fault, settle_fault, react_fault, option_fault, long_fault, short_fault, bundle_step_fault, flags_fault, bundle_fault, flag_word_fault, other_fault, word_fault, positional_fault, stray_fault, step_fault, turn_fault, walk_fault, level_fault, entered_fault, built_fault, fault_of, is_simple_and_free}
-use Rattle.clap_command.specs.Plain.{is_sound, is_plain_command}
+use Rattle.clap_command.specs.Plain.{is_sound, is_sound_command}
 
 both_nil : (a b : Kinds) → or_else a b ≡ [] → (a ≡ []) × (b ≡ [])
 both_nil [] b e = (refl, e)
@@ -220,9 +220,8 @@ built_ok a h words top subs e =
     and_from _ _ (entered_ok a _ subs p.0) p.1
 
 -- Words that have no fault are taken.
-pub takes_of_no_fault : (a : App) (words : List Text) → is_plain_command a ≡ true → fault_of a words ≡ [] → takes a words ≡ true
-takes_of_no_fault a words plain e =
-    let p = and_parts (is_simple_and_free a) _ plain in
+pub takes_of_no_fault : (a : App) (words : List Text) → is_sound_command a ≡ true → fault_of a words ≡ [] → takes a words ≡ true
+takes_of_no_fault a words sound e =
+    let p = and_parts (is_simple_and_free a) _ sound in
     let q = and_parts (is_sound (built a).top) _ p.1 in
-    let r = and_parts (list_all is_sound (built a).subs) _ q.1 in
-    and_from (is_simple a) _ (and_parts (is_simple a) _ p.0).0 (built_ok (built a) nothing_held (argument_words a words) q.0 r.0 e)
+    and_from (is_simple a) _ (and_parts (is_simple a) _ p.0).0 (built_ok (built a) nothing_held (argument_words a words) q.0 q.1 e)

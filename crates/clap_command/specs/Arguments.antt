@@ -12,6 +12,14 @@ positional id = record (new_rule id) { action = Some Set; required = true }
 abbrev pub number : Text → ℕ → ℕ → Rule
 number id least most = record (positional id) { parser = Some (Unsigned least most) }
 
+-- a number in a range, or the default
+abbrev pub number_or : Text → ℕ → ℕ → Text → Rule
+number_or id least most default = record (new_rule id) {
+  action = Some Set;
+  parser = Some (Unsigned least most);
+  defaults = default ∷ [];
+}
+
 -- words one after another: none, or up to `most`
 abbrev pub list : Text → ℕ → Rule
 list id most = record (new_rule id) { action = Some Set; range = Some (record { start_inclusive = 0; end_inclusive = most }) }

@@ -12,6 +12,18 @@ use Rattle.clap.specs.declared.builder.ArgAction.TheVariants.{Set, Append, SetTr
 abbrev pub is_sound : Shape → Bool
 is_sound s = list_all default_passes s.rules && list_all (λ a. a.is_free) s.rules
 
+-- a command of which it is told which words it takes, and by which faults it refuses words
+abbrev pub is_sound_command : App → Bool
+is_sound_command a = is_simple_and_free a && (is_sound (built a).top && list_all is_sound (built a).subs)
+
+abbrev pub are_none : List Shape → Bool
+are_none [] = true
+are_none (s ∷ subs) = false
+
+-- one without subcommands
+abbrev pub is_single_command : App → Bool
+is_single_command a = is_sound_command a && are_none (built a).subs
+
 -- a command with subcommands, one of which has to be there; `help` is refused
 abbrev pub is_plain_command : App → Bool
 is_plain_command a =

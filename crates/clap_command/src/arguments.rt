@@ -3,6 +3,7 @@ ghost use Rattle.std.specs.Prelude.{◌≡◌, ◌≤◌, false, IfOk};
 ghost use Rattle.clap.specs.Words.{app_of, rule_of, with_rule, with_subcommand};
 ghost use Rattle.clap.specs.declared.builder.Command.TheViews.{out-Command as fields_of};
 ghost use Rattle.clap_command.specs.Arguments.{positional as positional_rule, number as number_rule};
+ghost use Rattle.clap_command.specs.Arguments.{number_or as number_or_rule};
 ghost use Rattle.clap_command.specs.Arguments.{list as list_rule, required_list as required_list_rule};
 ghost use Rattle.clap_command.specs.Arguments.{required_numbers as required_numbers_rule};
 ghost use Rattle.clap_command.specs.Arguments.{optional_number as optional_number_rule};
@@ -26,6 +27,17 @@ pub fn number<'a>(alloc: Global, id: &'a str, least: u64, most: u64) -> Arg<'a>
     ensures local { result.global ≡ false }
 {
     positional(alloc, id).value_parser(ValueParser::unsigned(least, most))
+}
+
+/// A number from `least` to `most`, with one that stands where none is given.
+pub fn number_or<'a>(alloc: Global, id: &'a str, least: u64, most: u64, default: &'a str) -> Arg<'a>
+    ensures rule { rule_of result ≡ number_or_rule id.entry.now least most default.entry.now }
+    ensures local { result.global ≡ false }
+{
+    Arg::new(alloc, id)
+        .action(ArgAction::Set)
+        .value_parser(ValueParser::unsigned(least, most))
+        .default_value(default)
 }
 
 /// Up to `most` words, one after another.

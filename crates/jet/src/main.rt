@@ -3,8 +3,9 @@
 //! What each status says is told by the contract of `jet_cli::jet`.
 #![tactic(auto)]
 
+use command_parts::conclude;
 use jet_cli::jet;
-use jet_commands::{conclude, mark_for};
+use jet_commands::mark_for;
 use jet_refusal::Refusal;
 use no_memory::NoMemory;
 use outer_io::{FileStore, MachineClock, OpenGate, OutSink};

@@ -13,15 +13,16 @@ use Rattle.jet_model.specs.Answer.{IsRecordAnswer}
 use Rattle.jet_model.proofs.Headline.{answer-is_given, given-is_answer, reports-are_given, given-are_reports, run_answer-is_given, given-is_run_answer, convert-is_given, given-is_convert, record_answer-is_recording, recording-is_record_answer, one_record_answer}
 use Rattle.page_data.specs.Page.{page_report}
 use Rattle.order_gateway.proofs.Outcomes.{one_answer as one_bench_answer, answer-is_lines, lines-are_answer}
-use Rattle.jet_commands.specs.Outcome.{HeldBefore}
+use Rattle.command_parts.specs.Outcome.{HeldBefore}
 use Rattle.jet_commands.specs.Targets.{Target, ToOutput, ToFile}
 use Rattle.jet_commands.specs.Plans.{IsAnswer, target_of}
 use Rattle.jet_commands.specs.Answers.{given_by, decisions_by, made_by, stacks_by, core_by, named, limits_of, workload_length}
 use Rattle.outer_io.specs.Outside.{Change, IfTold, IsUndisturbed}
 use Rattle.jet_commands.specs.Writing.{FailsToWrite}
-use Rattle.jet_commands.specs.Ending.{IsText, WritesWhole, WritesPart, Ends, IsUnasked, causes_of, status_after}
+use Rattle.command_parts.specs.Saying.{status_after}
+use Rattle.jet_commands.specs.Ending.{IsText, WritesWhole, WritesPart, Ends, IsUnasked, causes_of}
 use Rattle.jet_cli.specs.Statuses.{IsWanted, IsDone, IsDoneInPart, IsRefused, IsHeard, IsDecided, AreWithinLimits, IsComplete}
-use Rattle.jet_cli.proofs.Refusals.{status_of-range, of_any_cause, of_write_fault}
+use Rattle.command_parts.proofs.Statuses.{status_of-range, of_any_cause, of_write_fault}
 
 -- ---- what the files come to, and what the words want
 

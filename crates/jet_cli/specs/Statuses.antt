@@ -14,7 +14,8 @@ use Rattle.order_gateway.specs.Answer.{IsBenchOf}
 use Rattle.jet_commands.specs.Answers.{OfClockAnswers, given_by, decisions_by, made_by, stacks_by, core_by, named, limits_of, workload_length}
 use Rattle.jet_commands.specs.Plans.{IsAnswer, Unless, plan_of}
 use Rattle.outer_io.specs.Outside.{Change, IfTold, IsFaultless, IsUndisturbed}
-use Rattle.jet_commands.specs.Ending.{WritesWhole, WritesPart, IsUnasked, causes_of, status_after}
+use Rattle.command_parts.specs.Saying.{status_after}
+use Rattle.jet_commands.specs.Ending.{WritesWhole, WritesPart, IsUnasked, causes_of}
 
 -- the program ends with 0, or with one of 2 to 11
 abbrev pub IsStatus : ℕ → Type 0

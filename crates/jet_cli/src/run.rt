@@ -6,14 +6,16 @@ ghost use Rattle.jet_commands.specs.Targets.{IfFile, OpensAll, OpensFirst, Keeps
 ghost use Rattle.jet_commands.specs.Plans.{command_in, target_in, files_of, IfUntimedIn};
 ghost use Rattle.outer_io.specs.Outside.{change};
 ghost use Rattle.epoch_engine.specs.Collecting.{AreAtBeginnings, AreRowsOf, IsCollectedOf};
-ghost use Rattle.jet_commands.specs.Ending.{IsUnwritten, Says};
+ghost use Rattle.command_parts.specs.Saying.{Says};
+ghost use Rattle.jet_commands.specs.Ending.{IsUnwritten};
 ghost use Rattle.jet_cli.specs.Statuses.{IsStatus, IsDone, IsDoneInPart, IsRefused, IsDecided, IsComplete};
 
 use checkpoints::Checkpoints;
+use command_parts::conclude;
 use epoch_cut::Cuts;
 use epoch_engine::{ClosureEngine, Collected, Parallelism};
 use epoch_line::{rows, work};
-use jet_commands::{conclude, obey};
+use jet_commands::obey;
 use no_memory::NoMemory;
 use outer_io::{Clock, Gate, Sink, Store};
 use query_lang::Query;

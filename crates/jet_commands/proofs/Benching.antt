@@ -46,11 +46,11 @@ use Rattle.no_memory.specs.declared.Fault.TheVariants as fault
 use Rattle.no_memory.specs.Faults.{IsCausedBy}
 use Rattle.jet_refusal.specs.Faults.{unrecorded_refusal, IsRefusalOf}
 use Rattle.order_gateway.specs.Recordings.{IsTooLong, IsCause}
-use Rattle.jet_commands.specs.Outcome.{HeldBefore, IsOutcomeBy, IsWork, by_reading}
+use Rattle.command_parts.specs.Outcome.{HeldBefore, IsOutcomeBy, IsWork, by_reading}
 use Rattle.jet_commands.specs.Answers.{IsWorkOf}
 use Rattle.jet_commands.specs.Bench.{IsWorkloadJob, asked_in_all}
-use Rattle.jet_commands.proofs.Composing.{owed-map}
-use Rattle.jet_commands.proofs.Fitting.{fitting_start-ok}
+use Rattle.command_parts.proofs.Composing.{owed-map}
+use Rattle.command_parts.proofs.Fitting.{fitting_start-ok}
 
 -- ---- the guest's run begins
 

@@ -9,7 +9,7 @@ use Rattle.outer_io.proofs.ReadsLemmas.{keeps-none, keeps-then as keep-then}
 use Rattle.jet_refusal.specs.declared.refusal.Refusal.{Refusal}
 use Rattle.jet_model.specs.Contents.{Contents}
 use Rattle.jet_commands.specs.Targets.{Target, ToOutput, ToFile, IfFile, KeepsAllBut}
-use Rattle.jet_commands.specs.Outcome.{IsOutcomeBy}
+use Rattle.command_parts.specs.Outcome.{IsOutcomeBy}
 use Rattle.jet_commands.specs.Ending.{IsUnasked}
 use Rattle.outer_io.specs.Shown.{StoreShown}
 use Rattle.jet_words.specs.declared.command.Command.{Command}

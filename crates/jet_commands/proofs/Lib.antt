@@ -1,10 +1,7 @@
 mod Benching
-mod Composing
 mod Cutting
-mod Fitting
 mod Giving
 mod Obeying
-mod Read
 mod Recording
 mod Reporting
 mod Several

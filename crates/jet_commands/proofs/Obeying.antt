@@ -13,7 +13,7 @@ use Rattle.jet_refusal.specs.declared.refusal.Refusal.{Refusal}
 use Rattle.jet_refusal.specs.declared.refusal.Refusal.TheVariants as refusal
 use Rattle.jet_refusal.specs.Causes.{IsOwedTo}
 use Rattle.jet_refusal.proofs.Causes.{IsOwedTo-map}
-use Rattle.jet_commands.specs.Outcome.{HeldBefore, IsOutcomeBy, by_reading}
+use Rattle.command_parts.specs.Outcome.{HeldBefore, IsOutcomeBy, by_reading}
 use Rattle.jet_commands.specs.Targets.{Target, ToOutput, ToFile, written_in, OpensAll, OpensFirst, KeepsAll}
 use Rattle.jet_commands.specs.Plans.{IsAnswer, target_of, plan_of, sources_of, target_in, files_of, IfUntimedIn}
 use Rattle.outer_io.specs.Outside.{Change}

@@ -27,8 +27,8 @@ use Rattle.jet_model.specs.Outcomes.{and_then, AndThen}
 use Rattle.jet_model.specs.Contents.{Contents, Program, program_at, inputs_at}
 use Rattle.jet_model.specs.Answer.{Limits, Source, source_at, setting_of, start_in, limited_text, IsCaptured as IsCapturedAs, IsCaptureAnswer}
 use Rattle.jet_model.proofs.AndThen.{AndThen-ok}
-use Rattle.jet_commands.specs.Outcome.{IsOutcomeBy, IsOutcomeOf}
-use Rattle.jet_commands.proofs.Composing.{outcome_by-stops, outcome_of-stops, outcome_of-then, outcome_of-work}
+use Rattle.command_parts.specs.Outcome.{IsOutcomeBy, IsOutcomeOf}
+use Rattle.command_parts.proofs.Composing.{outcome_by-stops, outcome_of-stops, outcome_of-then, outcome_of-work}
 use Rattle.jet_commands.specs.Answers.{IsCapture, IsRecording, IsWorkOf}
 use Rattle.jet_commands.specs.Ending.{IsUnasked}
 use Rattle.jet_commands.proofs.Working.{outcome_by-answer}

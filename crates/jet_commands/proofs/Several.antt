@@ -10,8 +10,9 @@ use Rattle.jet_refusal.specs.declared.refusal.Refusal.{Refusal}
 use Rattle.report_model.specs.Query.{Query, Alike}
 use Rattle.jet_model.specs.Contents.{Contents, file_at, inputs_at, numbered_query_at, queries_at}
 use Rattle.jet_model.proofs.Files.{each-push, each-stops}
-use Rattle.jet_commands.specs.Outcome.{IsOutcomeBy, AskAlike, IsKeptFor, AreAlike, AreAllAlike}
-use Rattle.jet_commands.proofs.Composing.{held-then, outcome_by-then, outcome_by-stops}
+use Rattle.command_parts.specs.Outcome.{IsOutcomeBy}
+use Rattle.jet_commands.specs.Outcome.{AskAlike, IsKeptFor, AreAlike, AreAllAlike}
+use Rattle.command_parts.proofs.Composing.{held-then, outcome_by-then, outcome_by-stops}
 
 -- the names that are lent
 abbrev pub texts : List (Bor (List ℕ)) → List Text

@@ -35,12 +35,13 @@ use Rattle.jet_model.specs.Contents.{Contents, Run, run_at}
 use Rattle.jet_model.specs.Report.{over_trace, reports_from, reports_of}
 use Rattle.jet_model.specs.Answer.{fitting_start, told_check, cut_answer, analysed_answer, unless_other_rule, rules_check}
 use Rattle.jet_model.proofs.AndThen.{and_then-ok, and_then-err}
-use Rattle.jet_commands.specs.Outcome.{AskAlike, IsKeptFor, IsOutcomeOf, HeldBefore, IsOutcomeBy, IsWork, by_reading, seen_by}
+use Rattle.command_parts.specs.Outcome.{IsOutcomeOf, HeldBefore, IsOutcomeBy, IsWork, by_reading, seen_by}
+use Rattle.jet_commands.specs.Outcome.{AskAlike, IsKeptFor}
 use Rattle.jet_commands.specs.Targets.{Target}
 use Rattle.jet_commands.specs.Obeying.{Gives, given_text, given_target}
 use Rattle.jet_commands.specs.declared.delivery.Given.{Given}
 use Rattle.jet_commands.proofs.Giving.{passes}
-use Rattle.jet_commands.proofs.Composing.{outcome_of-then, outcome_of-stops, outcome_by-stops, owed-map, work-then, work-stops}
+use Rattle.command_parts.proofs.Composing.{outcome_of-then, outcome_of-stops, outcome_by-stops, owed-map, work-then, work-stops}
 use Rattle.jet_commands.proofs.Several.{kept-refused as refused-alike}
 use Rattle.jet_words.specs.declared.command.Listing.{Listing}
 use Rattle.jet_words.specs.declared.command.Listing.TheVariants.{BySink, BySource, ByPath, ByRange}
@@ -61,7 +62,7 @@ use Rattle.no_memory.specs.Faults.{IsCausedBy}
 use Rattle.replay_model.specs.declared.Misfit.{Misfit}
 use Rattle.replayer.specs.Checks.{IsMisfit}
 use Rattle.jet_refusal.specs.Faults.{misfit_refusal, IsRefusalOf}
-use Rattle.jet_commands.proofs.Fitting.{fitting_start-ok, misfit-stops}
+use Rattle.command_parts.proofs.Fitting.{fitting_start-ok, misfit-stops}
 
 -- the first calls gave a value, and what the work on it says is that of all
 pub outcome_by-answer : {A B : Type 0} (R : Contents → Result A Refusal → Type 0) (Q : Result B Refusal → Type 0) (T : Contents → Result B Refusal → Type 0) (x : A) (f g : StoreShown)

@@ -23,7 +23,8 @@ use Rattle.decision_find.specs.Text.{decisions_report}
 use Rattle.page_data.specs.Page.{page_report}
 use Rattle.jet_model.specs.Answer.{Limits, Source, IsCaptureAnswer, IsRecordAnswer, analysed_answer, rules_check, fitting_start, told_check, limited_text}
 use Rattle.jet_refusal.specs.Causes.{IsOwedTo}
-use Rattle.jet_commands.specs.Outcome.{by_reading, AskAlike}
+use Rattle.command_parts.specs.Outcome.{by_reading}
+use Rattle.jet_commands.specs.Outcome.{AskAlike}
 use Rattle.core_file.specs.CoreFile.{core_file}
 use Rattle.run_output.specs.Summary.{summary_text}
 use Rattle.run_output.specs.Input.{input}

@@ -11,7 +11,7 @@ use Rattle.jet_refusal.specs.Refusals.{status_of}
 use Rattle.jet_refusal.specs.Causes.{Causes, IsOwedTo}
 use Rattle.jet_refusal.specs.Faults.{IsOutOfMemory}
 use Rattle.jet_model.specs.Contents.{Contents}
-use Rattle.jet_commands.specs.Outcome.{HeldBefore}
+use Rattle.command_parts.specs.Outcome.{HeldBefore}
 use Rattle.jet_commands.specs.Plans.{IsAnswer, target_of}
 use Rattle.outer_io.specs.Outside.{Change, IfTold, IsFaultless}
 use Rattle.jet_commands.specs.Writing.{Delivers, DeliversPart, FailsToWrite}
@@ -55,18 +55,6 @@ IsDelivered (Some command) change = IsFaultless change × IfTold change (WritesW
 abbrev pub Ends : Option CommandOf → Change → Result (Unit {0}) Refusal → Type 0
 Ends command change (Ok done) = IsDelivered command change
 Ends command change (Err refusal) = IsOwedTo (causes_of command change refusal) refusal
-
--- ---- its status and its line
-
-abbrev pub status_after : {A : Type 0} → Result A Refusal → ℕ
-status_after (Ok done) = 0
-status_after (Err refusal) = status_of refusal
-
--- where the error output tells what was written, it gained a beginning of this line, and where it didn't fail the whole line
-pub record Says (old new : SinkShown) (line : List ℕ) : Type 0 where
-  pub later : old.faults ≤ new.faults
-  pub part : Tells old.written new.written (GainsPrefix line)
-  pub whole : (Rose old.faults new.faults → ⊥) → Tells old.written new.written (Gains line)
 
 -- ---- what was not done
 

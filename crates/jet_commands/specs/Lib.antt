@@ -1,5 +1,4 @@
 pub mod Outcome
-pub mod Views
 pub mod Faults
 pub mod Texts
 pub mod Targets

@@ -9,12 +9,13 @@ use Rattle.outer_io.specs.Outside.{Change}
 use Rattle.jet_words.specs.Commands.{CommandOf}
 use Rattle.jet_refusal.specs.declared.refusal.Refusal.{Refusal}
 use Rattle.jet_model.specs.Contents.{Contents}
-use Rattle.jet_commands.specs.Outcome.{IsOutcomeBy, seen_by}
+use Rattle.command_parts.specs.Outcome.{IsOutcomeBy, seen_by}
 use Rattle.jet_commands.specs.Texts.{text_of}
 use Rattle.jet_commands.specs.Targets.{Target, ToOutput, ToFile, written_in, IfFile, OpensAll, OpensFirst, KeepsAll, KeepsBut}
 use Rattle.jet_commands.specs.Plans.{IsAnswer, sources_of, target_of, target_in, files_of, IfUntimed, IfUntimedIn}
 use Rattle.jet_commands.specs.Writing.{Delivers, DeliversPart, FailsToWrite}
-use Rattle.jet_commands.specs.Ending.{Ends, IsUnasked, IsUnwritten, status_after}
+use Rattle.command_parts.specs.Saying.{status_after}
+use Rattle.jet_commands.specs.Ending.{Ends, IsUnasked, IsUnwritten}
 use Rattle.jet_commands.specs.declared.delivery.Given.{Given}
 use Rattle.jet_commands.specs.declared.delivery.Given.TheVariants.{Told, Made}
 

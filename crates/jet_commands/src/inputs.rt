@@ -3,9 +3,10 @@ ghost use Rattle.std.specs.Prelude.{◌≡◌, ◌≤◌, ◌^◌, length, map, 
 ghost use Rattle.std.specs.List.{All};
 ghost use Rattle.outer_io.specs.Reads.{Reads};
 ghost use Rattle.jet_model.specs.Contents.{inputs_at};
-ghost use Rattle.jet_commands.specs.Outcome.{IsOutcomeOf, seen_by, inputs_of};
+ghost use Rattle.command_parts.specs.Outcome.{IsOutcomeOf, seen_by};
+ghost use Rattle.jet_commands.specs.Outcome.{inputs_of};
 
-use crate::reading::read_file;
+use command_parts::read_file;
 use jet_refusal::Refusal;
 use outer_io::Store;
 use std::alloc::Global;

@@ -6,7 +6,7 @@ ghost use Rattle.epoch_model.specs.Cutting.{IsCutting};
 ghost use Rattle.jet_words.specs.Commands.{IsPipeline};
 ghost use Rattle.jet_model.specs.Lengths.{epoch_length, cuts_by};
 ghost use Rattle.jet_model.specs.Answer.{epochs_check, told_check};
-ghost use Rattle.jet_commands.specs.Outcome.{IsWork, seen_by};
+ghost use Rattle.command_parts.specs.Outcome.{IsWork, seen_by};
 ghost use Rattle.run_query.specs.Parts.{IsEnough};
 ghost use Rattle.jet_commands.specs.Parts.{part_by};
 

@@ -2,10 +2,11 @@
 ghost use Rattle.std.specs.Prelude.{◌≡◌, ◌≤◌, ◌∷◌, [], true, length, map, is_ok, IfOk};
 ghost use Rattle.outer_io.specs.Reads.{Reads};
 ghost use Rattle.jet_model.specs.Contents.{queries_at};
-ghost use Rattle.jet_commands.specs.Outcome.{IsOutcomeBy, AreAlike, AreAllAlike, seen_by, queries_of};
+ghost use Rattle.command_parts.specs.Outcome.{IsOutcomeBy, seen_by};
+ghost use Rattle.jet_commands.specs.Outcome.{AreAlike, AreAllAlike, queries_of};
 ghost use Rattle.jet_commands.specs.Faults.{query_refusal, query_by};
 
-use crate::reading::read_file;
+use command_parts::read_file;
 use jet_refusal::Refusal;
 use no_memory::Fault;
 use outer_io::Store;

@@ -2,8 +2,8 @@
 ghost use Rattle.std.specs.Prelude.{◌≡◌, ◌≤◌, ◌^◌, ◌∷◌, length, map, IfOk, IfErr};
 ghost use Rattle.std.specs.List.{All};
 ghost use Rattle.call_record.specs.Sources.{contents};
-ghost use Rattle.jet_commands.specs.Outcome.{seen_by};
-ghost use Rattle.jet_commands.specs.Views.{program_of};
+ghost use Rattle.command_parts.specs.Outcome.{seen_by};
+ghost use Rattle.command_parts.specs.Views.{program_of};
 ghost use Rattle.jet_commands.specs.Targets.{ToFile};
 ghost use Rattle.jet_commands.specs.Answers.{limits_of, IsCapture, IsRecording, IsWorkOf};
 ghost use Rattle.jet_commands.specs.Ending.{IsUnasked};
@@ -11,8 +11,8 @@ ghost use Rattle.jet_commands.specs.Obeying.{given_text, given_target, Gives};
 
 use crate::delivery::Given;
 use crate::inputs::open_inputs;
-use crate::opening::open_program;
 use call_record::capture;
+use command_parts::open_program;
 use elf_image::Program;
 use jet_refusal::Refusal;
 use outer_io::{Clock, Store};

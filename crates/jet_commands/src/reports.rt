@@ -7,7 +7,7 @@ ghost use Rattle.report_model.specs.Query.{Query as Choice};
 ghost use Rattle.report_model.specs.Rows.{rows};
 ghost use Rattle.report_model.specs.Together.{only};
 ghost use Rattle.jet_model.specs.Answer.{rules_check};
-ghost use Rattle.jet_commands.specs.Outcome.{IsWork};
+ghost use Rattle.command_parts.specs.Outcome.{IsWork};
 ghost use Rattle.jet_commands.specs.Answers.{IsUnion};
 
 use jet_refusal::Refusal;

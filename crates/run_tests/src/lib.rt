@@ -1,6 +1,6 @@
 //! Tests of runs that are cut into epochs: where these begin, each by itself, what its core sends, and all of them
 //! together, with what crosses the cuts between them. Paths over runs, decisions of runs, the calls in progress, core
-//! files, pages, and moves of a debugger.
+//! files, pages, and moves and sessions of a debugger.
 #![tactic(auto)]
 
 #[cfg(test)]
@@ -21,6 +21,8 @@ mod pages;
 mod paths;
 #[cfg(test)]
 mod runs;
+#[cfg(test)]
+mod sessions;
 #[cfg(test)]
 mod stacks;
 #[cfg(test)]

@@ -6,7 +6,7 @@ use super::{
     COPY, Ending, Line, NEVER, Runtime, assert_ends, copied, log_of, program, store_with,
     wide_log_of,
 };
-use jet_commands::read_file;
+use command_parts::read_file;
 use memory_outside::MemoryStore;
 
 const AGAIN: Line = "jet convert prog new again";

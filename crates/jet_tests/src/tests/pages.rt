@@ -4,7 +4,7 @@ use super::guests::COPY_CODE;
 use super::record::assert_file;
 use super::runs::{COPIES, PAGE};
 use super::{COPY, Ending, Line, NEVER, Runtime, assert_ends, log_of, program, push, store_with};
-use jet_commands::read_file;
+use command_parts::read_file;
 use memory_outside::MemoryStore;
 use page_text::{push_head, push_tail};
 use sha2::{Digest, Sha256};

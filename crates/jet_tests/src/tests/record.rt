@@ -10,8 +10,8 @@ use super::{
     BASE, COMPUTE, COPIED, COPY, Channels, Ending, Entry, Line, NEVER, NO_INSTRUCTION, QUERY,
     Runtime, TIME, assert_ends, patched, program, push_file, store_of, wide_log_of,
 };
+use command_parts::read_file;
 use guest_assembler::{Instr, code};
-use jet_commands::read_file;
 use memory_outside::{MemoryFile, MemoryStore};
 
 /// Asks for the time, and writes it.

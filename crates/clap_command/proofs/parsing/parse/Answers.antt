@@ -1,6 +1,6 @@
-use Rattle.std.proofs.Common.{◌∙◌}
-use Rattle.std.proofs.lemmas.Bool.{false_from_ne_true}
+use Rattle.clap.specs.Words.{app_of}
+use Rattle.clap_command.proofs.Single.{sound_of_plain}
 use Rattle.clap_command.proofs.parsing.parse.Goals as goal
 
-pub returns-clause-usage : goal.returns-clause-usage
-returns-clause-usage c = false_from_ne_true _ (λ t. c.in_default.not-OutOfMemory (c.kind.ensures ∙ c.in-Err.ensures.memory t))
+pub parse_sound-requires : goal.parse_sound-requires
+parse_sound-requires c = sound_of_plain (app_of c.args.command) c.requires

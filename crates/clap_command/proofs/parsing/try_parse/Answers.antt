@@ -3,13 +3,13 @@ use Rattle.std.proofs.lemmas.Result.{IfOk-weaker}
 use Rattle.std.proofs.lemmas.Bool.{and_parts}
 use Rattle.clap.specs.declared.error.Error.{Error}
 use Rattle.clap.specs.Words.{App, FailsBy, Text, app_of, fault_of, is_simple, is_simple_and_free, takes}
-use Rattle.clap_command.specs.Plain.{is_plain_command}
+use Rattle.clap_command.specs.Plain.{is_sound_command}
 use Rattle.clap_command.proofs.NoFault.{takes_of_no_fault}
 use Rattle.clap_command.proofs.parsing.try_parse.Goals as goal
 
-if_taken : {T : Type 0} (r : Result T Error) (a : App) (words : List Text) → is_plain_command a ≡ true → FailsBy (fault_of a words) r → OnOk r (takes a words ≡ true)
-if_taken (Ok m) a words plain kinds = takes_of_no_fault a words plain kinds
-if_taken (Err e) a words plain kinds = tt
+if_taken : {T : Type 0} (r : Result T Error) (a : App) (words : List Text) → is_sound_command a ≡ true → FailsBy (fault_of a words) r → OnOk r (takes a words ≡ true)
+if_taken (Ok m) a words sound kinds = takes_of_no_fault a words sound kinds
+if_taken (Err e) a words sound kinds = tt
 
 pub returns : goal.returns
 returns c =
@@ -20,5 +20,6 @@ returns c =
     record {
       taken = if_taken given.result a words c.requires (given.ensures.kinds free);
       memory = given.ensures.passes;
+      rows = IfOk-weaker given.result _ _ (λ m has. (has (and_parts (is_simple a) _ free).0).0) given.ensures.matches;
       subcommand = IfOk-weaker given.result _ _ (λ m has. (has (and_parts (is_simple a) _ free).0).1) given.ensures.matches;
     }

@@ -1,6 +1,6 @@
 use Rattle.std.proofs.Common.{sym, ◌∙◌}
 use Rattle.std.proofs.lemmas.Result.{err_from_is_err_and}
-use Rattle.jet_commands.specs.Views.{run_of}
+use Rattle.command_parts.specs.Views.{run_of}
 use Rattle.jet_commands.specs.Answers.{format_text}
 use Rattle.jet_commands.specs.Obeying.{given_text}
 use Rattle.jet_commands.proofs.Working.{given-stops, given-gives, same_format}

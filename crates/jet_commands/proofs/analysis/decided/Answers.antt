@@ -1,6 +1,6 @@
 use Rattle.std.proofs.Common.{refl, None}
 use Rattle.std.proofs.lemmas.Result.{err_from_is_err_and}
-use Rattle.jet_commands.specs.Views.{run_of}
+use Rattle.command_parts.specs.Views.{run_of}
 use Rattle.jet_commands.specs.Answers.{decisions_by}
 use Rattle.jet_commands.proofs.Working.{misfit-cut, given-stops, given-gives, same_decisions}
 use Rattle.jet_commands.proofs.analysis.decided.Goals as goal

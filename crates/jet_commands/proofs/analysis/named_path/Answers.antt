@@ -1,5 +1,5 @@
 use Rattle.std.proofs.lemmas.Result.{err_from_is_err_and}
-use Rattle.jet_commands.specs.Views.{run_of}
+use Rattle.command_parts.specs.Views.{run_of}
 use Rattle.jet_commands.proofs.Working.{misfit-cut, cutting-stops}
 use Rattle.jet_commands.proofs.analysis.named_path.Goals as goal
 

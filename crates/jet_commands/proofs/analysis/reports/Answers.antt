@@ -1,7 +1,7 @@
 use Rattle.std.proofs.Common.{rules, Err}
 use Rattle.std.proofs.lemmas.Result.{IfOk-weaker}
 use Rattle.replayer.specs.Jobs.{trace_of}
-use Rattle.jet_commands.specs.Views.{run_of}
+use Rattle.command_parts.specs.Views.{run_of}
 use Rattle.jet_commands.specs.Answers.{IsWorkOf, AreGivenAlike}
 use Rattle.jet_commands.proofs.Working.{rules-stop, reports-stop, reports-come}
 use Rattle.jet_commands.proofs.analysis.reports.Goals as goal

@@ -2,7 +2,7 @@ use Rattle.std.proofs.Common.{[], ◌∷◌}
 use Rattle.report_model.specs.Query.{Alike}
 use Rattle.jet_model.specs.Contents.{query_at}
 use Rattle.jet_model.specs.Answer.{analysed_answer}
-use Rattle.jet_commands.specs.Views.{run_of}
+use Rattle.command_parts.specs.Views.{run_of}
 use Rattle.jet_commands.specs.Answers.{format_text, format_target}
 use Rattle.jet_commands.proofs.Working.{run-stops, kept-stops, kept-gives}
 use Rattle.jet_commands.proofs.answer.analysis.Goals as goal

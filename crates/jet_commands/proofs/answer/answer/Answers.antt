@@ -2,7 +2,7 @@ use Rattle.std.proofs.Common.{◌≡◌, refl, subst, map, is_ok, List, [], ◌�
 use Rattle.jet_model.specs.Answer.{queries_answer, run_answer}
 use Rattle.order_gateway.specs.Answer.{IsBenchAnswer}
 use Rattle.outer_io.proofs.ReadsLemmas.{reads-none, reads-less}
-use Rattle.jet_commands.specs.Outcome.{seen_by}
+use Rattle.command_parts.specs.Outcome.{seen_by}
 use Rattle.jet_commands.specs.Targets.{ToOutput, ToFile}
 use Rattle.jet_commands.specs.Answers.{IsRecording, limits_of, stacks_by, workload_length}
 use Rattle.jet_commands.specs.Obeying.{given_text, Gives}

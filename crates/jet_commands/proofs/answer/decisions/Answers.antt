@@ -2,7 +2,7 @@ use Rattle.std.proofs.Common.{[], ◌∷◌, None}
 use Rattle.report_model.specs.Query.{Alike}
 use Rattle.jet_model.specs.Contents.{query_at}
 use Rattle.jet_model.specs.Answer.{analysed_answer}
-use Rattle.jet_commands.specs.Views.{run_of}
+use Rattle.command_parts.specs.Views.{run_of}
 use Rattle.jet_commands.specs.Targets.{ToOutput}
 use Rattle.jet_commands.specs.Answers.{decisions_by}
 use Rattle.jet_commands.proofs.Working.{run-stops, kept-stops, kept-gives}

@@ -1,8 +1,9 @@
 use Rattle.std.proofs.Common.{subst, map, List, ℕ, Bor}
 use Rattle.report_model.specs.Query.{Query}
 use Rattle.jet_model.specs.Contents.{queries_at}
-use Rattle.jet_commands.specs.Outcome.{AskAlike, seen_by}
-use Rattle.jet_commands.specs.Views.{run_of}
+use Rattle.command_parts.specs.Outcome.{seen_by}
+use Rattle.jet_commands.specs.Outcome.{AskAlike}
+use Rattle.command_parts.specs.Views.{run_of}
 use Rattle.jet_commands.specs.Targets.{ToOutput}
 use Rattle.jet_commands.specs.Obeying.{given_text}
 use Rattle.jet_commands.specs.Answers.{several_answer, IsWorkOf, AreGivenAlike}

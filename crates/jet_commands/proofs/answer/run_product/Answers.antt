@@ -2,12 +2,12 @@ use Rattle.std.proofs.Common.{Err}
 use Rattle.outer_io.proofs.ReadsLemmas.{reads-less}
 use Rattle.jet_model.specs.Contents.{Contents, run_at}
 use Rattle.jet_model.specs.Answer.{fitting_start}
-use Rattle.jet_commands.specs.Outcome.{seen_by}
-use Rattle.jet_commands.specs.Views.{run_of}
+use Rattle.command_parts.specs.Outcome.{seen_by}
+use Rattle.command_parts.specs.Views.{run_of}
 use Rattle.jet_commands.specs.Answers.{making_answer}
 use Rattle.jet_commands.specs.Obeying.{given_text}
 use Rattle.jet_commands.proofs.Giving.{passes}
-use Rattle.jet_commands.proofs.Composing.{outcome_of-stops, outcome_of-work, work-stops}
+use Rattle.command_parts.proofs.Composing.{outcome_of-stops, outcome_of-work, work-stops}
 use Rattle.jet_commands.proofs.Working.{making-gives}
 use Rattle.jet_commands.proofs.answer.run_product.Goals as goal
 

@@ -3,7 +3,7 @@ use Rattle.std.proofs.lemmas.Result.{err_from_is_err_and}
 use Rattle.log_model.specs.Logs.{Log, steps}
 use Rattle.epoch_model.specs.ByLength.{cut_times}
 use Rattle.jet_model.specs.Answer.{epochs_check}
-use Rattle.jet_commands.specs.Outcome.{IsWork}
+use Rattle.command_parts.specs.Outcome.{IsWork}
 use Rattle.order_gateway.specs.Answer.{IsBenchAnswer}
 use Rattle.jet_commands.specs.Answers.{IsWorkOf, workload_length}
 use Rattle.jet_commands.proofs.Benching.{cuts-stop, lines-give}

@@ -6,7 +6,7 @@ use Rattle.std.proofs.lemmas.Result.{err_from_is_err_and}
 use Rattle.outer_io.specs.Reads.{Reads}
 use Rattle.outer_io.proofs.TellsLemmas.{tells-same}
 use Rattle.jet_model.specs.Contents.{inputs_at}
-use Rattle.jet_commands.specs.Outcome.{HeldBefore, IsOutcomeOf}
+use Rattle.command_parts.specs.Outcome.{HeldBefore, IsOutcomeOf}
 use Rattle.outer_io.proofs.ReadsLemmas.{reads-none}
 use Rattle.jet_commands.proofs.Several.{texts, items_of, inputs_in_order, one_more, one_refused, reads_more, reads_some}
 use Rattle.jet_commands.proofs.inputs.open_inputs.Goals as goal

@@ -3,7 +3,7 @@ use Rattle.std.specs.declared.alloc.Global.{Global}
 use Rattle.std.specs.List.{All}
 use Rattle.outer_io.specs.Reads.{Reads}
 use Rattle.jet_model.specs.Contents.{inputs_at}
-use Rattle.jet_commands.specs.Outcome.{IsOutcomeOf}
+use Rattle.command_parts.specs.Outcome.{IsOutcomeOf}
 use Rattle.jet_commands.proofs.inputs.open_inputs.Given as goal
 
 -- the first files are read

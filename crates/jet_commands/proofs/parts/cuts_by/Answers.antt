@@ -4,7 +4,7 @@ use Rattle.jet_refusal.specs.declared.refusal.Refusal.{Refusal}
 use Rattle.jet_model.specs.Lengths.{epoch_length}
 use Rattle.jet_model.specs.Answer.{epochs_check}
 use Rattle.jet_model.proofs.Lengths.{untold-checked}
-use Rattle.jet_commands.specs.Outcome.{IsWork, seen_by}
+use Rattle.command_parts.specs.Outcome.{IsWork, seen_by}
 use Rattle.jet_commands.proofs.parts.cuts_by.Goals as goal
 
 -- untold epochs are few

@@ -5,7 +5,8 @@ use Rattle.report_model.specs.Query.{Query}
 use Rattle.outer_io.specs.Reads.{Reads}
 use Rattle.outer_io.proofs.TellsLemmas.{tells-same}
 use Rattle.jet_model.specs.Contents.{queries_at}
-use Rattle.jet_commands.specs.Outcome.{HeldBefore, IsOutcomeBy, AreAllAlike}
+use Rattle.command_parts.specs.Outcome.{HeldBefore, IsOutcomeBy}
+use Rattle.jet_commands.specs.Outcome.{AreAllAlike}
 use Rattle.outer_io.proofs.ReadsLemmas.{reads-none}
 use Rattle.jet_commands.proofs.Several.{texts, queries_in_order, one_more, one_refused, reads_more, reads_some}
 use Rattle.jet_commands.proofs.queries.open_queries.Goals as goal

@@ -1,7 +1,8 @@
 use Rattle.std.proofs.Common.{◌≡◌, ℕ, List, length, map, take, true, Ok, Bor}
 use Rattle.outer_io.specs.Reads.{Reads}
 use Rattle.jet_model.specs.Contents.{queries_at}
-use Rattle.jet_commands.specs.Outcome.{IsOutcomeBy, AreAllAlike}
+use Rattle.command_parts.specs.Outcome.{IsOutcomeBy}
+use Rattle.jet_commands.specs.Outcome.{AreAllAlike}
 use Rattle.jet_commands.proofs.queries.open_queries.Given as goal
 
 -- the first files are read

@@ -5,7 +5,7 @@ use Rattle.no_memory.specs.Faults.{IsCausedBy}
 use Rattle.call_record.specs.Captures.{IsCaptured, IsCause, setting_of as captured_setting}
 use Rattle.call_record.specs.Sources.{contents}
 use Rattle.jet_model.specs.Answer.{Source, Limits}
-use Rattle.jet_commands.specs.Views.{program_of}
+use Rattle.command_parts.specs.Views.{program_of}
 use Rattle.jet_commands.specs.Answers.{limits_of}
 use Rattle.jet_commands.proofs.Recording.{captured-text, not_captured, not_read}
 use Rattle.jet_commands.proofs.recorded.log_file.Goals as goal

@@ -3,8 +3,8 @@ use Rattle.call_record.specs.Sources.{contents}
 use Rattle.outer_io.proofs.TellsLemmas.{tells-nothing}
 use Rattle.outer_io.proofs.ReadsLemmas.{reads-then, reads-stops, reads-less}
 use Rattle.std.specs.Global.{Vec}
-use Rattle.jet_commands.specs.Outcome.{seen_by}
-use Rattle.jet_commands.specs.Views.{program_of}
+use Rattle.command_parts.specs.Outcome.{seen_by}
+use Rattle.command_parts.specs.Views.{program_of}
 use Rattle.jet_commands.specs.Answers.{IsCapture, IsWorkOf, limits_of}
 use Rattle.jet_commands.specs.Obeying.{given_text}
 use Rattle.jet_commands.proofs.Giving.{passes, unasked}

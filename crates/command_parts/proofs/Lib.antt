@@ -1,0 +1,4 @@
+pub mod Composing
+pub mod Fitting
+mod Read
+pub mod Statuses

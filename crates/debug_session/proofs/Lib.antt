@@ -1,0 +1,4 @@
+mod Numbers
+mod Ranges
+mod Finding
+mod Replies

@@ -1,0 +1,4 @@
+pub mod History
+mod Causes
+mod Turns
+mod Pieces

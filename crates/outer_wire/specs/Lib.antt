@@ -1,0 +1,5 @@
+pub mod Wires
+pub mod Sending
+pub mod Talks
+pub mod Machine
+pub mod Answering
