@@ -1,3 +1,4 @@
 pub mod Composing
 pub mod Fitting
 mod Read
+pub mod Statuses

@@ -3,7 +3,8 @@
 //!
 //! Crates above rest on this: `open_run`, `open_program`, `open_log` and `read_file` give what files hold, or a refusal
 //! that has its cause; `conclude` gives the status of what came of a command, and says its line. proofs/Composing.antt
-//! has the outcomes of calls made one after another, and proofs/Fitting.antt why a log doesn't fit its program.
+//! has the outcomes of calls made one after another, proofs/Fitting.antt why a log doesn't fit its program, and
+//! proofs/Statuses.antt refusals by their status.
 #![tactic(auto)]
 
 mod ending;

@@ -1,5 +1,5 @@
 -- What the words of `jet-gdb` come to: a talk over the wire, or a refusal. `is_silent` says that nothing passed over the wire.
-use Rattle.std.specs.Prelude.{◌≡◌, ◌≤◌, ◌⊎◌, ℕ, Bool, List, [], ◌∷◌, map, Option, Some, None, Result, Ok, Err, is_ok, nat_eq, String, string_bytes}
+use Rattle.std.specs.Prelude.{◌≡◌, ◌≤◌, ◌⊎◌, ℕ, Bool, List, [], ◌∷◌, map, Option, Some, None, Result, Ok, Err, is_ok, String, string_bytes}
 use Rattle.std.specs.declared.alloc.Global.{Global}
 use Rattle.outer_io.specs.Faults.{Rose}
 use Rattle.outer_io.specs.Files.{Files, Text}
@@ -67,7 +67,7 @@ FailsToRead request change is_silent =
 -- what a refusal is owed to: the words stand for nothing; or the files as they were come to it; or reading failed; or the wire
 -- failed in sending, when the first of what was to be said had gone
 abbrev pub causes_of : Option RequestOf → Change → Type 0 → Refusal → Causes
-causes_of None change is_silent refusal = record { usage = Unit {0}; files = ⊥; read = ⊥; write = ⊥ }
+causes_of None change is_silent refusal = record { usage = is_silent; files = ⊥; read = ⊥; write = ⊥ }
 causes_of (Some request) change is_silent refusal = record {
   usage = ⊥;
   files = Tells change.store.files change.store_after.files (HeldBefore (λ file. job_at request file ≡ Err refusal)) × is_silent;
@@ -86,33 +86,43 @@ pub record Serves (request : RequestOf) (change : Change) (is_silent : Type 0) (
   pub so_far : is_silent ⊎ IsTalked IsTalkInPart request change
   pub reads : Reads (request.program ∷ request.log ∷ []) (is_ok result) change.store change.store_after
 
+-- ---- the words
+
+-- the same, where the words may stand for nothing
+abbrev pub EndsIn : Option RequestOf → Change → Type 0 → Result (Unit {0}) Refusal → Type 0
+EndsIn None change is_silent (Ok done) = ⊥
+EndsIn None change is_silent (Err refusal) = IsOwedTo (causes_of None change is_silent refusal) refusal
+EndsIn (Some request) change is_silent result = Ends request change is_silent result
+
+-- whatever comes of it: nothing passed, or a talk about the run, as far as it went
+abbrev pub IsSoFar : Option RequestOf → Change → Type 0 → Type 0
+IsSoFar None change is_silent = is_silent
+IsSoFar (Some request) change is_silent = is_silent ⊎ IsTalked IsTalkInPart request change
+
+-- the files that are read, in their order
+abbrev pub names_in : Option RequestOf → List Text
+names_in None = []
+names_in (Some request) = request.program ∷ request.log ∷ []
+
+pub record Obeys (request : Option RequestOf) (change : Change) (is_silent : Type 0) (result : Result (Unit {0}) Refusal) : Type 0 where
+  pub ends : EndsIn request change is_silent result
+  pub so_far : IsSoFar request change is_silent
+  pub reads : Reads (names_in request) (is_ok result) change.store change.store_after
+
 -- ---- the statuses
 
--- the program ends with 0, 2 to 5, or 7 to 10
+-- the program ends with 0, or with one of 2 to 11
 abbrev pub IsStatus : ℕ → Type 0
-IsStatus status = (status ≡ 0) ⊎ ((2 ≤ status) × (status ≤ 5)) ⊎ ((7 ≤ status) × (status ≤ 10))
+IsStatus status = (status ≡ 0) ⊎ ((2 ≤ status) × (status ≤ 11))
 
 -- 0: the request was served
 abbrev pub IsDone : Option RequestOf → Change → Type 0
 IsDone None change = ⊥
 IsDone (Some request) change = IsServed request change
 
--- 2 to 10: the status is that of a refusal, which has its cause; `says` holds of the line that is said, and it is the refusal's
+-- 2 to 11: the status is that of a refusal, which has its cause; `says` holds of the line that is said, and it is the refusal's
 pub record IsRefused (status : ℕ) (request : Option RequestOf) (says : List ℕ → Type 0) (change : Change) (is_silent : Type 0) : Type 0 where
   pub refusal : Refusal
   pub status_is : status ≡ status_of refusal
   pub line_is : says (line_of refusal)
   pub has_cause : IsOwedTo (causes_of request change is_silent refusal) refusal
-
--- whatever the status is: nothing passed, or a talk about the run, as far as it went
-abbrev pub IsSoFar : Option RequestOf → Change → Type 0 → Type 0
-IsSoFar None change is_silent = is_silent
-IsSoFar (Some request) change is_silent = is_silent ⊎ IsTalked IsTalkInPart request change
-
--- no file differs, and the program and then the log were opened, where the request was served; else the first of these, or none
-abbrev pub names_in : Option RequestOf → List Text
-names_in None = []
-names_in (Some request) = request.program ∷ request.log ∷ []
-
-abbrev pub is_served : ℕ → Bool
-is_served status = nat_eq status 0

@@ -1,10 +1,12 @@
 //! The call: words, and an outside.
 
-ghost use Rattle.std.specs.Prelude.{◌≡◌, ◌≤◌, ◌⊎◌, false, map, string_bytes};
+ghost use Rattle.std.specs.Prelude.{◌≡◌, ◌≤◌, ◌⊎◌, false, map, nat_eq, string_bytes, Err, IsErrAnd};
 ghost use Rattle.clap.specs.Words.{takes};
+ghost use Rattle.outer_io.specs.Reads.{Reads};
+ghost use Rattle.jet_refusal.specs.Faults.{IsOutOfMemory};
 ghost use Rattle.command_parts.specs.Saying.{Says};
 ghost use Rattle.gdb_words.specs.Requests.{gdb_app};
-ghost use Rattle.gdb_server.specs.Serving.{change, request_in, names_of, IsStatus, IsDone, IsRefused, IsTalkedInPart, Opens};
+ghost use Rattle.gdb_server.specs.Serving.{change, request_in, names_in, Obeys, IsStatus, IsDone, IsRefused, IsSoFar};
 
 use crate::serve::serve;
 use command_parts::conclude;
@@ -21,7 +23,13 @@ fn obey<S: Store, W: Wire>(
     words: &[String],
     store: &mut S,
     wire: &mut W,
-) -> Result<(), Refusal> {
+) -> Result<(), Refusal>
+    ensures usage { result ≡ Err Refusal.Usage → takes gdb_app (map string_bytes words.now) ≡ false }
+    ensures unread { takes gdb_app (map string_bytes words.now) ≡ false
+        → IsErrAnd result (λ r. (r ≡ Refusal.Usage) ⊎ IsOutOfMemory r) }
+    ensures obeys { Obeys (request_in words.now)
+        (change S.shown W.shown store.old wire.old store.new wire.new) (wire.new ≡ wire.old) result }
+{
     match read_words(alloc, words) {
         Ok(request) => serve(alloc, request, store, wire),
         Err(Fault::At(_)) => Err(Refusal::Usage),
@@ -38,7 +46,24 @@ pub fn jet_gdb<S: Store, W: Wire, E: Sink>(
     store: &mut S,
     wire: &mut W,
     err: &mut E,
-) -> u8 {
+) -> u8
+    ensures status { IsStatus result }
+    // 2: the command line doesn't take the words.
+    ensures usage { result ≡ 2 → takes gdb_app (map string_bytes words.now) ≡ false }
+    ensures unread { takes gdb_app (map string_bytes words.now) ≡ false → (result ≡ 2) ⊎ (result ≡ 10) }
+    // 0: what went over the wire is the dialogue of what came, each answer before more came, up to its end; and nothing is
+    // said.
+    ensures done { result ≡ 0 → IsDone (request_in words.now)
+        (change S.shown W.shown store.old wire.old store.new wire.new) }
+    ensures quiet { result ≡ 0 → err.new ≡ err.old }
+    // 2 to 11: a refusal with its cause, whose line is said.
+    ensures refused { 2 ≤ result → IsRefused result (request_in words.now) (Says (E.shown err.old) (E.shown err.new))
+        (change S.shown W.shown store.old wire.old store.new wire.new) (wire.new ≡ wire.old) }
+    // In any case: nothing passed, or a talk as far as it went; and no file differs.
+    ensures so_far { IsSoFar (request_in words.now)
+        (change S.shown W.shown store.old wire.old store.new wire.new) (wire.new ≡ wire.old) }
+    ensures reads { Reads (names_in (request_in words.now)) (nat_eq result 0) (S.shown store.old) (S.shown store.new) }
+{
     let outcome = obey(alloc, words, store, wire);
     conclude(err, outcome)
 }

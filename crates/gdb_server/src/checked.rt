@@ -36,7 +36,8 @@ pub(crate) fn cuts_of(log: &Log) -> Cuts
     ensures { IsCutting (steps log.now) result }
 {
     cut_times_are_cutting();
-    let count = (MOST_PAGES / u64::from(log.pages()).max(1)).clamp(FEWEST, MOST);
+    let room = MOST_PAGES / u64::from(log.pages()).max(1);
+    let count = room.max(FEWEST).min(MOST);
     let steps = steps_of(log);
     let length = steps.div_ceil(count).max(SHORTEST);
     match cuts(steps, length) {

@@ -25,7 +25,7 @@ pub(crate) fn serve<S: Store, W: Wire>(
     store: &mut S,
     wire: &mut W,
 ) -> Result<(), Refusal>
-    ensures { Serves (plain_request request)
+    ensures { Serves (plain_request request.entry)
         (change S.shown W.shown store.old wire.old store.new wire.new) (wire.new ≡ wire.old) result }
 {
     let run = open_run(alloc, store, request.program, request.log)?;

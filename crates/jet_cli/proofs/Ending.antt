@@ -22,7 +22,7 @@ use Rattle.jet_commands.specs.Writing.{FailsToWrite}
 use Rattle.command_parts.specs.Saying.{status_after}
 use Rattle.jet_commands.specs.Ending.{IsText, WritesWhole, WritesPart, Ends, IsUnasked, causes_of}
 use Rattle.jet_cli.specs.Statuses.{IsWanted, IsDone, IsDoneInPart, IsRefused, IsHeard, IsDecided, AreWithinLimits, IsComplete}
-use Rattle.jet_cli.proofs.Refusals.{status_of-range, of_any_cause, of_write_fault}
+use Rattle.command_parts.proofs.Statuses.{status_of-range, of_any_cause, of_write_fault}
 
 -- ---- what the files come to, and what the words want
 

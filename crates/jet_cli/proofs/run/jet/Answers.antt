@@ -5,7 +5,7 @@ use Rattle.command_parts.specs.Saying.{Says}
 use Rattle.jet_commands.specs.Ending.{IsUnwritten}
 use Rattle.jet_cli.specs.Statuses.{IsStatus}
 use Rattle.jet_cli.proofs.Ending as ending
-use Rattle.jet_cli.proofs.Refusals.{status_after-is_status, usage}
+use Rattle.command_parts.proofs.Statuses.{status_after-is_status, usage}
 use Rattle.jet_cli.proofs.run.jet.Goals as goal
 
 pub returns-clause-status : goal.returns-clause-status

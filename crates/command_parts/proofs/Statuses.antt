@@ -1,11 +1,11 @@
--- Refusals by their status.
+-- Refusals by their status. Crates above cite these lemmas.
 use Rattle.std.proofs.Common.{◌≡◌, ap, refl, arith, ◌≤◌, inl, inr, Result, Ok, Err}
+use Rattle.std.specs.Prelude.{◌⊎◌}
 use Rattle.jet_refusal.specs.declared.refusal.Refusal.{Refusal}
 use Rattle.jet_refusal.specs.declared.refusal.Refusal.TheVariants as refusal
 use Rattle.jet_refusal.specs.Refusals.{status_of}
 use Rattle.jet_refusal.specs.Causes.{Causes, IsOwedTo}
 use Rattle.command_parts.specs.Saying.{status_after}
-use Rattle.jet_cli.specs.Statuses.{IsStatus}
 
 pub status_of-range : (r : Refusal) → (2 ≤ status_of r) × (status_of r ≤ 11)
 status_of-range refusal.Usage = (omega arith, omega arith)
@@ -24,7 +24,7 @@ status_of-range refusal.ReadFault = (omega arith, omega arith)
 status_of-range refusal.WriteFault = (omega arith, omega arith)
 status_of-range (refusal.NoMemory no_memory) = (omega arith, omega arith)
 
-pub status_after-is_status : (r : Result (Unit {0}) Refusal) → IsStatus (status_after r)
+pub status_after-is_status : (r : Result (Unit {0}) Refusal) → (status_after r ≡ 0) ⊎ ((2 ≤ status_after r) × (status_after r ≤ 11))
 status_after-is_status (Ok done) = inl refl
 status_after-is_status (Err r) = inr (status_of-range r)
 
