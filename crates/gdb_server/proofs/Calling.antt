@@ -1,5 +1,5 @@
 -- How the call ends.
-use Rattle.std.proofs.Common.{◌≡◌, ◌≤◌, refl, sym, subst, arith, ℕ, List, [], Bool, true, false, Option, Some, None, inl, inr, Result, Ok, Err}
+use Rattle.std.proofs.Common.{◌≡◌, ◌≤◌, sym, subst, arith, ℕ, List, [], Bool, false, Option, Some, None, inl, Result, Ok, Err}
 use Rattle.std.specs.Prelude.{is_ok, nat_eq, IfErr, OnOk}
 use Rattle.std.proofs.lemmas.Bool.Decides.{nat_tests}
 use Rattle.outer_io.specs.Files.{Text}

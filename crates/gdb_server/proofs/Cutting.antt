@@ -1,5 +1,5 @@
 -- A run has few cuts.
-use Rattle.std.proofs.Common.{◌≤◌, ℕ, ◌*◌, arith}
+use Rattle.std.proofs.Common.{◌≤◌, ℕ, arith}
 use Rattle.std.specs.Int.{div_ceil}
 use Rattle.std.proofs.lemmas.Grind.{div_ceil_times}
 use Rattle.std.proofs.lemmas.Nat.{mul-le}

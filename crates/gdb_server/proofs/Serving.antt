@@ -1,18 +1,14 @@
 -- How a request ends, step after step.
-use Rattle.std.proofs.Common.{◌≡◌, ◌∙◌, ap, sym, refl, subst, ℕ, List, [], ◌∷◌, take, length, Bool, true, false, Some, inl, inr, Result, Ok, Err}
-use Rattle.std.specs.Prelude.{◌⊎◌}
+use Rattle.std.proofs.Common.{◌≡◌, ◌∙◌, ap, sym, subst, List, [], ◌∷◌, true, false, Some, inl, inr, Result, Ok, Err}
 use Rattle.std.proofs.Math.Seq.{take-length}
 use Rattle.outer_io.specs.Faults.{Rose}
-use Rattle.outer_io.specs.Files.{Files, Text}
 use Rattle.outer_io.specs.Shown.{StoreShown}
 use Rattle.outer_io.specs.Tells.{Tells, IsPrefix}
 use Rattle.outer_io.specs.Reads.{Reads}
 use Rattle.outer_io.proofs.TellsLemmas.{tells-map}
-use Rattle.outer_wire.specs.Wires.{Passed, WireShown, went, came}
+use Rattle.outer_wire.specs.Wires.{Passed, went}
 use Rattle.outer_wire.specs.Talks.{Answers, Gained, IsTalk, IsTalkInPart, IsWholeTalk, Talks}
-use Rattle.outer_wire.specs.declared.broken.Broken.{Broken}
 use Rattle.outer_wire.specs.declared.broken.Broken.TheVariants.{Receiving, Sending}
-use Rattle.no_memory.specs.declared.Fault.{Fault}
 use Rattle.no_memory.specs.declared.Fault.TheVariants.{At, NoMemory}
 use Rattle.no_memory.specs.declared.NoMemory.{NoMemory as OutOfMemory}
 use Rattle.log_model.specs.Logs.{Log}
@@ -21,10 +17,9 @@ use Rattle.replayer.specs.Jobs.{Job}
 use Rattle.replayer.specs.Checks.{IsChecked}
 use Rattle.jet_refusal.specs.declared.refusal.Refusal.{Refusal}
 use Rattle.jet_refusal.specs.declared.refusal.Refusal.TheVariants as refusal
-use Rattle.jet_refusal.specs.Causes.{IsOwedTo}
 use Rattle.jet_refusal.proofs.Causes.{IsOwedTo-map}
 use Rattle.jet_model.specs.Outcomes.{and_then}
-use Rattle.jet_model.specs.Contents.{Contents, Run, run_at}
+use Rattle.jet_model.specs.Contents.{Run, run_at}
 use Rattle.jet_model.specs.Answer.{fitting_start}
 use Rattle.jet_model.proofs.AndThen.{and_then-ok}
 use Rattle.gdb_words.specs.Requests.{RequestOf}
@@ -32,7 +27,7 @@ use Rattle.command_parts.specs.Outcome.{HeldBefore, IsOutcomeOf, IsWork, by_read
 use Rattle.command_parts.proofs.Composing.{outcome_of-stops, outcome_of-work, work-stops}
 use Rattle.command_parts.proofs.Fitting.{fitting_start-ok}
 use Rattle.debug_talk.specs.Debugging.{answers_of}
-use Rattle.gdb_server.specs.Serving.{Change, job_at, TalksOf, TalksOfRun, IsTalked, IsServed, causes_of, Ends, Serves}
+use Rattle.gdb_server.specs.Serving.{Change, job_at, TalksOf, TalksOfRun, IsTalked, causes_of, Serves}
 
 -- ---- what the files come to
 

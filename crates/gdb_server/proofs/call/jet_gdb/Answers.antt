@@ -2,7 +2,7 @@ use Rattle.std.proofs.Common.{◌≡◌, ◌∙◌, sym, subst}
 use Rattle.command_parts.specs.Saying.{Says}
 use Rattle.command_parts.proofs.Statuses.{status_after-is_status, usage}
 use Rattle.gdb_server.specs.Serving.{change, request_in, names_in, IsStatus}
-use Rattle.gdb_server.proofs.Calling.{done, where_done, refused, reads_by}
+use Rattle.gdb_server.proofs.Calling.{done, refused, reads_by}
 use Rattle.gdb_server.proofs.call.jet_gdb.Goals as goal
 
 pub returns-clause-status : goal.returns-clause-status

@@ -1,5 +1,4 @@
 use Rattle.std.proofs.Common.{refl}
-use Rattle.outer_wire.specs.Wires.{WireShown}
 use Rattle.gdb_words.specs.Requests.{plain_request}
 use Rattle.gdb_server.specs.Serving.{change, request_in}
 use Rattle.gdb_server.proofs.Calling.{obeyed, no_request, not_begun}
