@@ -27,7 +27,7 @@ _jet() {
 }
 complete -o filenames -F _jet jet
 
-# The kit's commands: files, and jet-run's options, jet-ask's rules and commands, jet-why's rules.
+# jet-gdb and the kit's commands: files, and jet-run's options, jet-ask's rules and commands, jet-why's rules.
 _jet_kit() {
     local word=${COMP_WORDS[COMP_CWORD]} words=
     COMPREPLY=()
@@ -36,7 +36,7 @@ _jet_kit() {
     jet-ask:3 | jet-why:5) words='copy keep compute index' ;;
     jet-ask:[45]) words='all' ;;
     jet-ask:6) words='show query influence path decisions' ;;
-    jet-why:[34] | jet-core:3) return ;; # a number
+    jet-why:[34] | jet-core:3 | jet-debug:3 | jet-gdb:3) return ;; # a number
     esac
     if [ -n "$words" ]; then
         mapfile -t COMPREPLY < <(compgen -W "$words" -- "$word")
@@ -44,4 +44,4 @@ _jet_kit() {
         mapfile -t COMPREPLY < <(compgen -f -- "$word")
     fi
 }
-complete -o filenames -F _jet_kit jet-run jet-ask jet-lines jet-why jet-core
+complete -o filenames -F _jet_kit jet-gdb jet-run jet-ask jet-lines jet-why jet-core jet-debug
