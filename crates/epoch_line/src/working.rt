@@ -93,7 +93,7 @@ fn joined_rows<R: Threads + Sync>(
     summaries: Vec<Summary>,
     workers: u32,
 ) -> Result<SinkSets, NoMemory>
-    requires { (run : CutTrace) × AreOfRun run (map summary_of summaries.items) }
+    requires of_run { (run : CutTrace) × AreOfRun run (map summary_of summaries.items) }
     ensures { (run : CutTrace) → AreOfRun run (map summary_of summaries.items)
         → IfOk result (λ sets. sets ≡ rows_as_written run.query run.trace) }
 {
