@@ -44,5 +44,5 @@ loop-cursor-preserved c =
           ap (found_back job points) next
           ∙ kept job points middle.time middle c.stop_before_next.result (option_or c.stop_in_row.result old.found) first (place_of job middle row.same_job) c.stop_before_next.ensures.stop so_far
           ∙ ap (λ (o : Option Stop). option_or (option_or c.stop_before_next.result o) first) (sym c.or-found.ensures)
-          ∙ ap (λ (o : Option Stop). option_or o first) (sym c.or-found-2.ensures);
+          ∙ ap (λ (o : Option Stop). option_or o first) (sym c.or-found-in-loop-cursor.ensures);
     }
