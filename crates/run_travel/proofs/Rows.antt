@@ -1,5 +1,5 @@
 -- Rows of steps, forward and back.
-use Rattle.std.proofs.Common.{◌≡◌, ℕ, suc, ◌+◌, ◌-◌, ◌<◌, ◌≤◌, max, Bool, true, false, ◌||◌, if◌then◌else◌, ◌⊎◌, inl, inr, Option, Some, None, is_some, find, refl, ap, sym, ◌∙◌, subst, add-one, arith}
+use Rattle.std.proofs.Common.{◌≡◌, ℕ, suc, ◌+◌, ◌-◌, ◌<◌, ◌≤◌, max, Bool, true, false, ◌||◌, if◌then◌else◌, ◌⊎◌, inl, inr, Option, Some, None, is_some, find, refl, ap, sym, ◌∙◌, subst, arith}
 use Rattle.std.specs.Bool.{then_some}
 use Rattle.std.specs.Option.{option_map, option_or}
 use Rattle.std.specs.List.{range_with_len}
@@ -17,7 +17,7 @@ use Rattle.run_travel.specs.declared.watch.Watch.{Watch}
 use Rattle.run_travel.specs.Stops.{PointsAt, met_at, pc_at, is_break, is_point, is_reached, stops_after, stops_before}
 use Rattle.run_travel.specs.Moves.{stop_on, time_after}
 use Rattle.run_travel.specs.Searches.{stop_at, last_met, found_back, IsRowOn, IsRowBack}
-use Rattle.run_travel.specs.Looks.{LookingAt, looking, looked, met_by_access, Looks, IsWanted}
+use Rattle.run_travel.specs.Looks.{LookingAt, looking, met_by_access, Looks, IsWanted}
 use Rattle.run_travel.proofs.Finding.{from_first}
 use Rattle.run_travel.proofs.Stopping.{stops_here, last_more}
 use Rattle.run_travel.proofs.Accessing.{met_plain}

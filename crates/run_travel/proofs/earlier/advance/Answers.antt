@@ -1,5 +1,4 @@
-use Rattle.std.proofs.Common.{◌≡◌, ap, ◌∙◌, arith}
-use Rattle.replayer.specs.Jobs.{Job}
+use Rattle.std.proofs.Common.{ap, ◌∙◌, arith}
 use Rattle.replayer.specs.Positions.{CursorAt}
 use Rattle.replayer.proofs.Told.{went_on}
 use Rattle.run_travel.proofs.earlier.advance.Goals as goal

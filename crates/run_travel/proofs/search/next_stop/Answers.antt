@@ -3,7 +3,6 @@ use Rattle.std.specs.Prelude.{Option}
 use Rattle.std.specs.Option.{option_map}
 use Rattle.log_model.specs.Logs.{steps}
 use Rattle.replayer.specs.Jobs.{Job}
-use Rattle.replayer.specs.Positions.{CursorAt}
 use Rattle.run_travel.specs.Moves.{time_after}
 use Rattle.run_travel.specs.Searches.{stop_at}
 use Rattle.run_travel.proofs.Rows.{row_stopped, row_goes_on, row_at, after_last}

@@ -1,5 +1,4 @@
 use Rattle.std.proofs.Common.{ap, ◌∙◌, arith}
-use Rattle.replayer.specs.Positions.{CursorAt}
 use Rattle.run_travel.specs.Looks.{looking}
 use Rattle.run_travel.proofs.Rows.{made_row}
 use Rattle.run_travel.proofs.search.stop_after_row.Goals as goal
