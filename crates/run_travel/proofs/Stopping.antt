@@ -1,8 +1,7 @@
 -- The steps at which a run stops, as the code finds them.
-use Rattle.std.proofs.Common.{◌≡◌, ℕ, ◌+◌, ◌<◌, ◌≤◌, Bool, true, false, List, [], ◌∷◌, if◌then◌else◌, Option, Some, None, length, is_some, length-take, slice_get, refl, ap, sym, ◌∙◌, add-one, arith}
+use Rattle.std.proofs.Common.{◌≡◌, ℕ, ◌+◌, ◌<◌, ◌≤◌, Bool, true, false, List, [], ◌∷◌, if◌then◌else◌, Option, Some, None, length, length-take, slice_get, refl, ap, sym, ◌∙◌, add-one, arith}
 use Rattle.std.specs.Bool.{then_some}
 use Rattle.std.specs.Option.{option_map, option_or}
-use Rattle.std.proofs.lemmas.Bool.{true≢false}
 use Rattle.std.proofs.lemmas.Option.{same_Some}
 use Rattle.log_model.specs.Logs.{steps}
 use Rattle.replayer.specs.Jobs.{Job}
@@ -23,35 +22,8 @@ stops_here job points aim t h e =
 
 -- ---- one step more
 
--- where a cursor stands at time t, the run makes a step, and stops after it, or not
-pub record IsMadeOn (job : Job) (points : PointsAt) (aim : Aim) (t : ℕ) (before : CursorAt) (stop : Option Stop) : Type 0 where
-  pub here : before ≡ record { job = job; time = t }
-  pub below : t < steps job.log
-  pub is : stop ≡ then_some (stops_after before.job points aim before.time) (stop_at before.job points before.time)
-
-stop_here : (job : Job) (points : PointsAt) (aim : Aim) (t : ℕ) (before : CursorAt) (stop : Option Stop) → IsMadeOn job points aim t before stop
-    → stop ≡ then_some (stops_after job points aim t) (stop_at job points t)
-stop_here job points aim t before stop made =
-    made.is ∙ ap (λ (k : CursorAt). then_some (stops_after k.job points aim k.time) (stop_at k.job points k.time)) made.here
-
-pub stopped : (job : Job) (points : PointsAt) (aim : Aim) (t : ℕ) (before : CursorAt) (stop : Option Stop) → IsMadeOn job points aim t before stop
-    → is_some stop ≡ true → (stop_on job points aim t ≡ Some t) × (stop ≡ Some (stop_at job points t))
-stopped job points aim t before stop made some = by (stops_after job points aim t) refl (stop_here job points aim t before stop made) where
-  by : (b : Bool) → stops_after job points aim t ≡ b → stop ≡ then_some b (stop_at job points t) → (stop_on job points aim t ≡ Some t) × (stop ≡ Some (stop_at job points t))
-  by true stops e = (stops_here job points aim t made.below stops, e)
-  by false stops e = absurd (true≢false (sym some ∙ ap (λ (o : Option Stop). is_some o) e))
-
-pub goes_on : (job : Job) (points : PointsAt) (aim : Aim) (t : ℕ) (before : CursorAt) (stop : Option Stop) → IsMadeOn job points aim t before stop
-    → is_some stop ≡ false → stop_on job points aim t ≡ stop_on job points aim (t + 1)
-goes_on job points aim t before stop made none = by (stops_after job points aim t) refl (stop_here job points aim t before stop made) where
-  by : (b : Bool) → stops_after job points aim t ≡ b → stop ≡ then_some b (stop_at job points t) → stop_on job points aim t ≡ stop_on job points aim (t + 1)
-  by true stops e = absurd (true≢false (sym (ap (λ (o : Option Stop). is_some o) e) ∙ none))
-  by false stops e =
-      from_first (stops_after job points aim) t (steps job.log) made.below
-      ∙ ap (λ (b : Bool). if b then Some t else stop_on job points aim (t + 1)) stops
-
 -- the last stop before time t + 1 is step t, or else one before
-last_more : (job : Job) (points : PointsAt) (t : ℕ)
+pub last_more : (job : Job) (points : PointsAt) (t : ℕ)
     → found_back job points (t + 1) ≡ option_or (then_some (stops_before job points t) (stop_at job points t)) (found_back job points t)
 last_more job points t =
     ap (found_back job points) (add-one t)

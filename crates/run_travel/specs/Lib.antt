@@ -3,3 +3,4 @@ pub mod Stops
 pub mod Moves
 pub mod MoveLaws
 pub mod Searches
+pub mod Looks

@@ -10,7 +10,7 @@ use crate::search::{Stop, last_stop, make_step};
 use crate::watch::Watch;
 use checkpoints::Checkpoints;
 use no_memory::NoMemory;
-use replayer::{Cursor, Job, Next};
+use replayer::{Cursor, Job, Next, Nobody};
 use std::alloc::Global;
 
 /// Makes the steps up to a time, which is no earlier.
@@ -19,7 +19,10 @@ pub(crate) fn advance(cursor: &mut Cursor<'_>, time: u64)
     requires within { time ≤ steps_of cursor.old.job.log }
     ensures { cursor.new ≡ record { job = cursor.old.job; time = time } }
 {
-    for _step in cursor.time()..time {
+    while cursor.time() < time {
+        let plain = cursor.plain_until();
+        let until = plain.min(time - 1);
+        cursor.run_plain(until, &mut Nobody);
         let Next::Step(_) = cursor.next() else {
             unreachable!()
         };

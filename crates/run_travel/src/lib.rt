@@ -20,6 +20,7 @@ mod cause;
 mod earlier;
 mod kind;
 pub mod laws;
+mod looking;
 mod points;
 mod search;
 mod travel;

@@ -3,8 +3,10 @@
 ghost use Rattle.std.specs.Prelude.{◌≡◌, ◌==◌, ◌||◌, [], false, Some, not, filter, IfSome, OnOk, OnErr};
 ghost use Rattle.std.specs.List.{find, list_any};
 ghost use Rattle.std.specs.Option.{is_some};
-ghost use Rattle.run_travel.specs.Stops.{same_watch, meets, met_by, is_break, is_point, with_break, without_break, with_watch, without_watch};
+ghost use Rattle.run_travel.specs.Stops.{same_watch, met_by, is_break, is_point, with_break, without_break, with_watch, without_watch};
+ghost use Rattle.run_travel.specs.Looks.{meets_bytes};
 
+use crate::access::{Span, read_by, written_by};
 use crate::watch::Watch;
 use flow_model::StepSeen;
 use no_memory::NoMemory;
@@ -56,13 +58,13 @@ fn clear_watch(watches: &mut Vec<Watch>, watch: &Watch)
     watches.retain(|kept| !kept.is_same(watch));
 }
 
-/// The first of these watchpoints that a step meets.
+/// The first of these watchpoints that a step meets, which writes and reads these bytes.
 #[inline(always)]
-fn first_met(watches: &[Watch], step: &StepSeen) -> Option<Watch>
-    ensures { result ≡ find (meets step.now) watches.now }
+fn first_met(watches: &[Watch], written: Span, read: Span) -> Option<Watch>
+    ensures { result ≡ find (meets_bytes written read) watches.now }
 {
     for watch in watches {
-        if watch.is_met(step) {
+        if watch.is_met(written, read) {
             return Some(*watch);
         }
     }
@@ -121,7 +123,23 @@ impl Points {
     pub(crate) fn met(&self, step: &StepSeen) -> Option<Watch>
         ensures { result ≡ met_by self.now (Some step.now) }
     {
-        first_met(&self.watches, step)
+        self.met_by_bytes(written_by(step), read_by(step))
+    }
+
+    /// The watchpoint that a step meets, which writes and reads these bytes: of several the one that was set first.
+    #[inline(always)]
+    pub(crate) fn met_by_bytes(&self, written: Span, read: Span) -> Option<Watch>
+        ensures { result ≡ find (meets_bytes written read) self.now.watches }
+    {
+        first_met(&self.watches, written, read)
+    }
+
+    /// Whether an address is a breakpoint.
+    #[inline(always)]
+    pub(crate) fn has_break(&self, pc: u32) -> bool
+        ensures { result ≡ is_break self.now pc }
+    {
+        has_break(&self.breaks, pc)
     }
 
     /// Whether there is a watchpoint.
@@ -136,6 +154,6 @@ impl Points {
     pub(crate) fn is_point(&self, met: &Option<Watch>, pc: u32) -> bool
         ensures { result ≡ is_point self.now met.now pc }
     {
-        met.is_some() || has_break(&self.breaks, pc)
+        met.is_some() || self.has_break(pc)
     }
 }

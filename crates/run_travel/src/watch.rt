@@ -1,11 +1,11 @@
 //! Watchpoints.
 
 ghost use Rattle.std.specs.Prelude.{◌≡◌};
-ghost use Rattle.run_travel.specs.Stops.{same_watch, looks_at, meets};
+ghost use Rattle.run_travel.specs.Stops.{same_watch, looks_at};
+ghost use Rattle.run_travel.specs.Looks.{meets_bytes};
 
-use crate::access::{Span, read_by, written_by};
+use crate::access::Span;
 use crate::kind::WatchKind;
-use flow_model::StepSeen;
 
 /// A watchpoint: some bytes of memory, of which `place` is the address of the first. One of no bytes is met by no step.
 /// The end isn't taken modulo 2^32.
@@ -36,15 +36,15 @@ impl Watch {
         first < past.min(past_bytes)
     }
 
-    /// Whether a step meets it.
+    /// Whether a step meets it, which writes and reads these bytes.
     #[inline(always)]
-    pub(crate) fn is_met(&self, step: &StepSeen) -> bool
-        ensures { result ≡ meets step.now self.now }
+    pub(crate) fn is_met(&self, written: Span, read: Span) -> bool
+        ensures { result ≡ meets_bytes written read self.now }
     {
         match self.kind {
-            WatchKind::Writes => self.looks_at(written_by(step)),
-            WatchKind::Reads => self.looks_at(read_by(step)),
-            WatchKind::Both => self.looks_at(read_by(step)) || self.looks_at(written_by(step)),
+            WatchKind::Writes => self.looks_at(written),
+            WatchKind::Reads => self.looks_at(read),
+            WatchKind::Both => self.looks_at(read) || self.looks_at(written),
         }
     }
 }
