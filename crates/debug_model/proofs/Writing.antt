@@ -1,6 +1,6 @@
 -- What no step writes stays the same.
 use Rattle.std.proofs.Common.{◌≡◌, ℕ, zero, suc, ◌+◌, ◌-◌, ◌<◌, ◌≤◌, ◌⊎◌, inl, inr, Bool, true, false, if◌then◌else◌, List, [], ◌∷◌, length, get_or, Option, Some, None, find, cond, refl, ap, sym, ◌∙◌, subst, arith, nat_le, nat_lt, leb-true, ltb-true}
-use Rattle.std.specs.Prelude.{codes, is_some}
+use Rattle.std.specs.Prelude.{◌||◌, codes, is_some}
 use Rattle.std.specs.List.{All, Contains}
 use Rattle.std.proofs.lemmas.Bool.{true≢false, and_parts, or_parts, cases_lt}
 use Rattle.std.proofs.lemmas.List.Elements.{All-nil, All-cons, All-contains}
@@ -26,9 +26,9 @@ use Rattle.run_travel.specs.Moves.{stop_back, time_before, cause_of, cause_back}
 use Rattle.run_travel.specs.MoveLaws as moves
 use Rattle.debug_model.specs.Sessions.{SessionAt}
 use Rattle.debug_model.specs.StopTexts.{stop_text}
-use Rattle.debug_model.specs.Answers.{answer_to}
+use Rattle.debug_model.specs.Answers.{answer_to, after}
 use Rattle.debug_model.specs.StateLaws.{byte_at}
-use Rattle.debug_model.specs.WriteLaws.{looks_for_writes, SameWatched, IsSearched, NothingIsWrittenBetween, NothingIsWrittenBefore}
+use Rattle.debug_model.specs.WriteLaws.{looks_for_writes, SameWatched, IsSearched, NothingIsWrittenBetween, NothingIsWrittenBefore, WritesWatched, TheStepWroteIt}
 use Rattle.debug_model.proofs.Travelling.{time_of_move}
 
 -- ---- a step that isn't a stop writes no watched byte
@@ -192,3 +192,45 @@ nothing_before some passed job s w bytes t is begin low =
     let none = found_nothing job s.points (stop_back job s.points s.time) cc in
     let all = subst (moves.IsGreatest (stops_before job s.points) 0 s.time) none (passed job s.points s.time) in
     kept_up_to some job s w bytes t is low (λ k above below. all k (omega arith) below)
+
+-- ---- the step that was taken back
+
+some_met : (o : Option Watch) → is_some o ≡ true → (w : Watch) × (o ≡ Some w)
+some_met None e = absurd (true≢false (sym e))
+some_met (Some w) e = (w, refl)
+
+or_none : (b : Bool) → (b || false) ≡ true → b ≡ true
+or_none true e = refl
+or_none false e = e
+
+only_one : (p : Watch → Bool) (w : Watch) (b : Bool) → p w ≡ b → is_some (cond b (Some w) None) ≡ true → p w ≡ true
+only_one p w true here e = here
+only_one p w false here e = absurd (true≢false (sym e))
+
+-- the step meets the one watchpoint that is set
+wrote : moves.SomeByteIsOfBoth → (job : Job) (w : Watch) (k : ℕ) (o : Option StepSeen) → step_at (trace_of job) k ≡ o → w.kind ≡ Writes
+    → is_some (met_by (record { breaks = []; watches = w ∷ [] }) o) ≡ true → WritesWatched job w k
+wrote some job w k None there kind met = absurd (true≢false (sym met))
+wrote some job w k (Some step) there kind met =
+    let meets_it = only_one (meets step) w (meets step w) refl met in
+    let looks : looks_at w (written_by step step.call) ≡ true =
+    sym (ap (λ (kind : WatchKind). is_looked_for kind (looks_at w (written_by step step.call)) (looks_at w (read_by step step.call))) kind) ∙ meets_it in
+    let both = (some w (written_by step step.call)).0 looks in
+    record { step = step; there = there; byte = both.0; both = both.1 }
+
+pub step_wrote_it : moves.SomeByteIsOfBoth → moves.NothingIsPassedBack → TheStepWroteIt
+step_wrote_it some passed job s w bytes kind alone back not_begin =
+    by (stop_back job s.points s.time) refl (passed job s.points s.time) where
+      to : (after job s bytes).time ≡ time_before (stop_back job s.points s.time)
+      to = time_of_move job s bytes ReverseContinue back
+
+      by : (o : Option ℕ) → stop_back job s.points s.time ≡ o → moves.IsGreatest (stops_before job s.points) 0 s.time o
+          → WritesWatched job w (after job s bytes).time
+      by None none is =
+          absurd (not_begin (ap (answer_to job s bytes) back
+          ∙ ap (λ (o : Option ℕ). stop_text (cause_back job s.points o) ∷ []) none))
+      by (Some k) found is =
+          let stops : stops_before job (record { breaks = []; watches = w ∷ [] }) k ≡ true =
+          ap (λ (points : PointsAt). stops_before job points k) (sym alone) ∙ is.2 in
+          let met = or_none (is_some (met_at job (record { breaks = []; watches = w ∷ [] }) k)) stops in
+          subst (WritesWatched job w) (sym (to ∙ ap time_before found)) (wrote some job w k (step_at (trace_of job) k) refl kind met)

@@ -6,7 +6,7 @@ ghost use Rattle.debug_model.specs.DialogueLaws.{BeginningIsBeginning, NothingIs
 ghost use Rattle.debug_model.specs.FrameLaws.{AnswersAreWritten, DialogueIsHeard};
 ghost use Rattle.debug_model.specs.StateLaws.{StateIsOfRun, EachIsAmongAll, RegistersAreRead, MemoryIsBytes};
 ghost use Rattle.debug_model.specs.TravelLaws.{StaysWithin, NothingIsPassedForward, NothingIsPassedBack, OnIsTakenBack, StepIsTakenBack, StepBackIsMadeAgain};
-ghost use Rattle.debug_model.specs.WriteLaws.{NothingIsWrittenBetween, NothingIsWrittenBefore};
+ghost use Rattle.debug_model.specs.WriteLaws.{NothingIsWrittenBetween, NothingIsWrittenBefore, TheStepWroteIt};
 
 /// What is written for a beginning of the bytes that are read is the beginning of what is written for all of them; and
 /// behind the packet that ends the session nothing is.
@@ -83,10 +83,12 @@ pub fn a_run_stays_as_it_was()
 
 /// Who wrote: between the time to which a move back came, and the time from which it came, the bytes of a watchpoint
 /// that looks for writes stay the same, but for the step that was taken back. Where the move is told the beginning,
-/// they are the same at all times before.
+/// they are the same at all times before; and else, where it is the one point that is set and for writes alone, the step
+/// that was taken back wrote one of them.
 pub fn who_wrote()
     ensures between { NothingIsWrittenBetween }
     ensures before { NothingIsWrittenBefore }
+    ensures step { TheStepWroteIt }
 {
     run_travel::laws::a_watchpoint_is_met_by_a_byte_of_both();
     run_travel::laws::nothing_is_passed_over();

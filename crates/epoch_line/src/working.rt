@@ -1,6 +1,9 @@
 //! The rows of a run that is cut, from its epochs to what these come to.
 
-ghost use Rattle.std.specs.Prelude.{IfOk};
+ghost use Rattle.std.specs.Prelude.{◌≡◌, map, IfOk};
+ghost use Rattle.report_model.specs.Rows.{rows_as_written};
+ghost use Rattle.epoch_summary.specs.Summaries.{summary_of};
+ghost use Rattle.summary_join.specs.Runs.{AreOfRun, CutTrace};
 ghost use Rattle.epoch_engine.specs.Collecting.{AreAtBeginnings, AreRowsOf, IsCollectedOf};
 
 use checkpoints::Checkpoints;
@@ -8,6 +11,7 @@ use epoch_analysis::analyse_all;
 use epoch_cut::Cuts;
 use epoch_engine::{Collected, Joining, Parallelism};
 use epoch_layout::{collect, lay_out};
+use epoch_summary::Summary;
 use epoch_turns::work_in_groups;
 use no_memory::NoMemory;
 use outer_io::Gate;
@@ -76,8 +80,24 @@ pub fn rows<G: Gate, R: Threads + Wait + Sync>(
             let _points = query.points();
             let workers = parallelism.workers;
             let summaries = analyse_all(rt, alloc, gate, checkpoints, query, cuts, workers)?;
-            let sinks = join(alloc, summaries)?;
-            Ok(SinkSets::from_vec(sinks.rows_at_once(rt, alloc, workers)?))
+            joined_rows(rt, alloc, summaries, workers)
         }
     }
+}
+
+/// The rows of a run of the summaries of all its epochs, which are joined by one log, and whose rows all workers make. It gives
+/// up with NoMemory alone.
+fn joined_rows<R: Threads + Sync>(
+    rt: &R,
+    alloc: Global,
+    summaries: Vec<Summary>,
+    workers: u32,
+) -> Result<SinkSets, NoMemory>
+    requires of_run { (run : CutTrace) × AreOfRun run (map summary_of summaries.items) }
+    ensures { (run : CutTrace) → AreOfRun run (map summary_of summaries.items)
+        → IfOk result (λ sets. sets ≡ rows_as_written run.query run.trace) }
+{
+    let sinks = join(alloc, summaries)?;
+    let rows = sinks.rows_at_once(rt, alloc, workers)?;
+    Ok(SinkSets::from_vec(rows))
 }

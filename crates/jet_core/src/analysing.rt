@@ -58,5 +58,6 @@ pub(crate) fn rows_at_once<R: Threads + Sync>(
     let tickets = cuts.tickets(alloc)?;
     let summaries = found_at_once(rt, alloc, checkpoints, query, tickets)?;
     let sinks = join(alloc, summaries)?;
-    Ok(SinkSets::from_vec(sinks.rows(alloc)?))
+    let rows = sinks.rows(alloc)?;
+    Ok(SinkSets::from_vec(rows))
 }

@@ -13,7 +13,7 @@ use replay_log::Log;
 use replayer::{Checker, Divergence, Job, Misfit, Nobody};
 
 /// How many steps are done before the log's end is compared.
-fn end_of(log: &Log) -> u64
+pub fn end_of(log: &Log) -> u64
     ensures { result ≡ end_at log.now.end }
 {
     match log.end() {

@@ -2,6 +2,7 @@
 
 ghost use Rattle.std.specs.Prelude.{◌≤◌};
 
+use crate::checks::end_of;
 use crate::guests::{
     CALL_AND_EXIT, COPY_FOUR, COPY_IN_TWO, CUT_OFF, Recorded, Runtime, TRAP, copy_many, job_of,
     unchecked,
@@ -14,7 +15,7 @@ use epoch_engine::{Joining, Parallelism};
 use epoch_link::Capacity;
 use epoch_summary::{Asked, Summary, TermsAhead};
 use flow_model::{Loc, SinkByte, SinkPoint, SourceByte};
-use local_taint::{analyse, analyse_last};
+use local_taint::{analyse, analyse_ahead, analyse_last};
 use merge_log::TermsReader;
 use outer_io::OpenGate;
 use query_lang::{Query, parse};
@@ -94,6 +95,14 @@ fn assert_sink(rt: &impl Runtime, summary: &Summary, reader: &mut TermsReader, o
     assert_read(rt, reader, &[source], &[]);
 }
 
+/// The summary has these terms at the epoch's end.
+fn assert_ends(rt: &impl Runtime, summary: &Summary, reader: &mut TermsReader) {
+    for (loc, runs, starts) in ENDS {
+        summary.end_terms(reader, loc).expect(rt, "memory");
+        assert_read(rt, reader, runs, starts);
+    }
+}
+
 /// The summary is that of the whole run.
 fn assert_summary(rt: &impl Runtime, summary: &Summary) {
     let mut reader = TermsReader::new(rt.alloc());
@@ -102,10 +111,7 @@ fn assert_summary(rt: &impl Runtime, summary: &Summary) {
     for offset in 0..4 {
         assert_sink(rt, summary, &mut reader, offset);
     }
-    for (loc, runs, starts) in ENDS {
-        summary.end_terms(&mut reader, loc).expect(rt, "memory");
-        assert_read(rt, &reader, runs, starts);
-    }
+    assert_ends(rt, summary, &mut reader);
 }
 
 #[test]
@@ -140,6 +146,24 @@ fn an_epoch_is_analysed_while_it_is_checked(rt: HostRuntime) {
     let checker = opened.expect(&rt, "a log of the program");
     let summary = analyse_last(alloc, ticket, checker, &query).expect(&rt, "a log that fits");
     assert_summary(&rt, &summary);
+}
+
+/// The first of two epochs, which reads the bytes and writes none, is analysed while it is checked.
+#[test]
+fn an_epoch_before_the_last_is_analysed_while_it_is_checked(rt: HostRuntime) {
+    let alloc = rt.alloc();
+    let query = parse(alloc, b"rule copy\nsource all\nsink all\n").expect(&rt, "a query");
+    let Recorded { program, log } = unchecked(&rt, &COPY_FOUR);
+    let ticket = ticket_of(&rt, 6);
+    if ticket.first() != 0 || ticket.past_last() != 6 || end_of(&log) < 6 {
+        rt.abort()
+    }
+    let opened = Checker::open(alloc, &program.bytes, &program.image, &log);
+    let checker = opened.expect(&rt, "a log of the program");
+    let summary = analyse_ahead(alloc, ticket, checker, &query).expect(&rt, "a log that fits");
+    let mut reader = TermsReader::new(alloc);
+    assert!(rt; summary.sink_count() == 0);
+    assert_ends(&rt, &summary, &mut reader);
 }
 
 /// The summary of a run with one epoch, which the analysis of that epoch finds.

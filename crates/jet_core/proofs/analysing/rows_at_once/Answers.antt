@@ -1,4 +1,4 @@
-use Rattle.std.proofs.Common.{List, sym, subst}
+use Rattle.std.proofs.Common.{List, sym, ◌∙◌, subst}
 use Rattle.std.specs.Prelude.{All}
 use Rattle.replayer.specs.Jobs.{trace_of}
 use Rattle.epoch_cut.specs.Numbered.{NumberedEpoch}
@@ -25,4 +25,4 @@ returns g c =
     let q = c.args.query.now in
     let es = c.in_ok-summaries.summaries.items in
     let found = subst (λ (ts : List NumberedEpoch). AreFound q (trace_of job) ts es) c.in_ok-tickets.ensures c.in_ok-summaries.ensures in
-    c.join.ensures (record { query = q; trace = trace_of job; cuts = c.args.cuts }) (of_run job q c.args.cuts es c.points-points.ensures.located c.requires.cutting found)
+    c.from_vec.ensures ∙ c.in_ok-rows.ensures ∙ c.in_ok-sinks.ensures (record { query = q; trace = trace_of job; cuts = c.args.cuts }) (of_run job q c.args.cuts es c.points-points.ensures.located c.requires.cutting found)
