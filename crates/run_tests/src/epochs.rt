@@ -1,8 +1,8 @@
 //! A run whose epochs begin at checkpoints, and an epoch that is analysed by itself.
 
-ghost use Rattle.std.specs.Prelude.{◌≤◌};
+ghost use Rattle.std.specs.Prelude.{◌≡◌, ◌≤◌};
+ghost use Rattle.log_model.specs.Logs.{end_at};
 
-use crate::checks::end_of;
 use crate::guests::{
     CALL_AND_EXIT, COPY_FOUR, COPY_IN_TWO, CUT_OFF, Recorded, Runtime, TRAP, copy_many, job_of,
     unchecked,
@@ -16,9 +16,11 @@ use epoch_link::Capacity;
 use epoch_summary::{Asked, Summary, TermsAhead};
 use flow_model::{Loc, SinkByte, SinkPoint, SourceByte};
 use local_taint::{analyse, analyse_ahead, analyse_last};
+use log_model::RunEnd;
 use merge_log::TermsReader;
 use outer_io::OpenGate;
 use query_lang::{Query, parse};
+use replay_log::Log;
 use replayer::{Checker, Cursor, Job, Next, steps_of};
 use seq_taint::sequential;
 use sink_collect::SinkSet;
@@ -146,6 +148,17 @@ fn an_epoch_is_analysed_while_it_is_checked(rt: HostRuntime) {
     let checker = opened.expect(&rt, "a log of the program");
     let summary = analyse_last(alloc, ticket, checker, &query).expect(&rt, "a log that fits");
     assert_summary(&rt, &summary);
+}
+
+/// How many steps are done before the log's end is compared.
+fn end_of(log: &Log) -> u64
+    ensures { result ≡ end_at log.now.end }
+{
+    match log.end() {
+        RunEnd::Exit { at, .. } => at,
+        RunEnd::Trap { at, .. } => at,
+        RunEnd::Limit { at } => at,
+    }
 }
 
 /// The first of two epochs, which reads the bytes and writes none, is analysed while it is checked.

@@ -96,15 +96,6 @@ pub const COPY_FOUR: Guest = Guest {
         \x05\x0b\0\0\0\0\0\0\0",
 };
 
-/// The same with a log that has another byte written: it differs at step 8.
-pub const OTHER_COPY: Guest = Guest {
-    code: moving!(4;),
-    log: b"\x01\0\0\0\x01\0\0\0\
-        \x01\x05\0\0\0\0\0\0\0\0\x01\x01\0\x04\0\0\0\x04\0\0\0ABCD\
-        \x02\x08\0\0\0\x01\0\0\0\0\x01\x01\0\x04\0\0\0\x04\0\0\0ABXD\
-        \x05\x0b\0\0\0\0\0\0\0",
-};
-
 /// Reads three bytes to 0x10100, then two more behind them, and writes all five: eighteen steps.
 pub const COPY_IN_TWO: Guest = Guest {
     code: moving!(

@@ -1,10 +1,8 @@
 //! Tests of runs that are cut into epochs: where these begin, each by itself, what its core sends, and all of them
-//! together, with what crosses the cuts between them. Checks that go on a stretch at a time. Paths over runs, decisions of
+//! together, with what crosses the cuts between them. Paths over runs, decisions of
 //! runs, the calls in progress, core files, pages, and moves and sessions of a debugger.
 #![tactic(auto)]
 
-#[cfg(test)]
-mod checks;
 #[cfg(test)]
 mod core_files;
 #[cfg(test)]
