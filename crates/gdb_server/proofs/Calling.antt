@@ -1,19 +1,25 @@
 -- How the call ends.
-use Rattle.std.proofs.Common.{◌≡◌, ◌≤◌, sym, subst, arith, ℕ, List, [], Bool, false, Option, Some, None, inl, Result, Ok, Err}
+use Rattle.std.proofs.Common.{◌≡◌, ◌≤◌, ◌⊎◌, ap, sym, refl, subst, arith, ℕ, List, [], Bool, false, Option, Some, None, IsSome, inl, inr, Result, Ok, Err}
 use Rattle.std.specs.Prelude.{is_ok, nat_eq, IfErr, OnOk}
 use Rattle.std.proofs.lemmas.Bool.Decides.{nat_tests}
-use Rattle.outer_io.specs.Files.{Text}
+use Rattle.outer_io.specs.Faults.{Rose}
+use Rattle.outer_io.specs.Files.{Files, Text}
 use Rattle.outer_io.specs.Shown.{StoreShown}
 use Rattle.outer_io.specs.Reads.{Reads}
+use Rattle.outer_io.specs.Tells.{Tells}
 use Rattle.outer_io.proofs.ReadsLemmas.{reads-none, reads-stops}
+use Rattle.outer_wire.specs.Talks.{IsWholeTalk}
 use Rattle.no_memory.specs.declared.NoMemory.{NoMemory as OutOfMemory}
+use Rattle.replayer.specs.Jobs.{Job}
 use Rattle.jet_refusal.specs.declared.refusal.Refusal.{Refusal}
 use Rattle.jet_refusal.specs.declared.refusal.Refusal.TheVariants as refusal
 use Rattle.jet_refusal.specs.Refusals.{status_of, line_of}
+use Rattle.jet_refusal.proofs.Causes.{IsOwedTo-map}
+use Rattle.command_parts.specs.Outcome.{HeldBefore}
 use Rattle.command_parts.specs.Saying.{status_after}
-use Rattle.command_parts.proofs.Statuses.{status_of-range}
+use Rattle.command_parts.proofs.Statuses.{status_of-range, of_any_cause}
 use Rattle.gdb_words.specs.Requests.{RequestOf}
-use Rattle.gdb_server.specs.Serving.{Change, EndsIn, Serves, Obeys, IsDone, IsRefused, names_in}
+use Rattle.gdb_server.specs.Serving.{Change, Ends, EndsIn, Serves, Obeys, IsDone, IsRefused, IsUndisturbed, IsDecided, TalksOf, TalksOfRun, FailsToRead, causes_of, job_at, names_in}
 
 module _ (request : Option RequestOf) (change : Change) (is_silent : Type 0) where
   -- the words stand for this
@@ -67,3 +73,48 @@ pub reads_by : (names : List Text) (f g : StoreShown) (r : Result (Unit {0}) Ref
 reads_by names f g (Ok x) status e reads = subst (λ (n : ℕ). Reads names (nat_eq n 0) f g) (sym e) reads
 reads_by names f g (Err r) status e reads =
     subst (λ (b : Bool). Reads names b f g) (sym (not_zero status (subst (λ (n : ℕ). 2 ≤ n) (sym e) (status_of-range r).0))) reads
+
+-- ---- where the store and the wire don't fail
+
+-- what holds of the files that were told, and still are
+of_told : (a b : Option Files) (told : Files) (R : Files → Files → Type 0) (P : Files → Type 0) → ((x y : Files) → R x y → P x)
+    → a ≡ Some told → IsSome b → Tells a b R → P told
+of_told a None told R P f e some h = cc
+of_told None (Some y) told R P f e some h = absurd h
+of_told (Some x) (Some y) told R P f e some h = let same : x ≡ told = cc in subst P same (f x y h)
+
+-- there is no talk without a run
+a_run : (time : ℕ) (change : Change) (job : Result Job Refusal) → TalksOf IsWholeTalk time change job → 0 ≡ status_after job
+a_run time change (Ok job) talks = refl
+a_run time change (Err r) talks = absurd talks
+
+module _ (request : RequestOf) (change : Change) (u : IsUndisturbed change) where
+  abbrev Decided : ℕ → Type 0
+  Decided status = (status ≡ status_after (job_at request u.told.file)) ⊎ (status ≡ 10)
+
+  by_files : (status : ℕ) (R : Files → Files → Type 0) → ((x y : Files) → R x y → status ≡ status_after (job_at request x.file))
+      → Tells change.store.files change.store_after.files R → Decided status
+  by_files status R f told =
+      inl (of_told change.store.files change.store_after.files u.told R (λ files. status ≡ status_after (job_at request files.file)) f u.tells u.still_tells told)
+
+  no_read : (is_silent : Type 0) → FailsToRead request change is_silent → ⊥
+  no_read is_silent (inl rose) = omega (arith, rose.0 u.store_room, u.store_faults)
+  no_read is_silent (inr rose) = omega (arith, rose.0 u.wire_room, u.wire_faults)
+
+  no_write : Rose change.wire.faults change.wire_after.faults → ⊥
+  no_write rose = omega (arith, rose u.wire_room, u.wire_faults)
+
+  decided-some : (is_silent : Type 0) (r : Result (Unit {0}) Refusal) → Ends request change is_silent r → Decided (status_after r)
+  decided-some is_silent (Ok x) h =
+      by_files 0 (TalksOfRun IsWholeTalk request change) (λ x y t. a_run request.time change (job_at request x.file) t.talks) h.talked
+  decided-some is_silent (Err r) h =
+      let Goal : Type 0 = Decided (status_of r) in
+      of_any_cause Goal r (λ e. inr e)
+      (IsOwedTo-map (causes_of (Some request) change is_silent r) (record { usage = Goal; files = Goal; read = Goal; write = Goal }) (λ p. absurd p)
+      (λ found. by_files (status_of r) (HeldBefore (λ file. job_at request file ≡ Err r)) (λ x y before. ap status_after (sym before.held)) found.0)
+      (λ failed. absurd (no_read is_silent failed)) (λ failed. absurd (no_write failed.0)) r h)
+
+pub decided : (request : Option RequestOf) (change : Change) (is_silent : Type 0) (r : Result (Unit {0}) Refusal) (status : ℕ) → status ≡ status_after r
+    → EndsIn request change is_silent r → IsDecided status request change
+decided None change is_silent r status e h = tt
+decided (Some request) change is_silent r status e h = λ u. subst (Decided request change u) (sym e) (decided-some request change u is_silent r h)

@@ -1,5 +1,5 @@
 -- What the words of `jet-gdb` come to: a talk over the wire, or a refusal. `is_silent` says that nothing passed over the wire.
-use Rattle.std.specs.Prelude.{◌≡◌, ◌≤◌, ◌⊎◌, ℕ, List, [], ◌∷◌, map, Option, Some, None, Result, Ok, Err, is_ok, String, string_bytes}
+use Rattle.std.specs.Prelude.{◌≡◌, ◌≤◌, ◌<◌, ◌-◌, ◌^◌, ◌⊎◌, ℕ, List, [], ◌∷◌, map, Option, Some, None, IsSome, Result, Ok, Err, is_ok, String, string_bytes}
 use Rattle.std.specs.declared.alloc.Global.{Global}
 use Rattle.outer_io.specs.Faults.{Rose}
 use Rattle.outer_io.specs.Files.{Files, Text}
@@ -17,6 +17,7 @@ use Rattle.jet_model.specs.Contents.{Contents, run_at}
 use Rattle.jet_model.specs.Answer.{fitting_start}
 use Rattle.gdb_words.specs.Requests.{RequestOf, request_of}
 use Rattle.command_parts.specs.Outcome.{HeldBefore}
+use Rattle.command_parts.specs.Saying.{status_after}
 use Rattle.debug_talk.specs.Debugging.{answers_of}
 
 -- what the store and the wire show before a call and after it
@@ -126,3 +127,21 @@ pub record IsRefused (status : ℕ) (request : Option RequestOf) (says : List �
   pub status_is : status ≡ status_of refusal
   pub line_is : says (line_of refusal)
   pub has_cause : IsOwedTo (causes_of request change is_silent refusal) refusal
+
+-- ---- where the store and the wire don't fail, the files decide; or memory is out
+
+-- the store tells its files to the end, and the counts of faults stood below their last value and didn't rise
+pub record IsUndisturbed (change : Change) : Type 0 where
+  pub told : Files
+  pub tells : change.store.files ≡ Some told
+  pub still_tells : IsSome change.store_after.files
+  pub store_room : change.store.faults < 2 ^ 64 - 1
+  pub store_faults : change.store_after.faults ≡ change.store.faults
+  pub wire_room : change.wire.faults < 2 ^ 64 - 1
+  pub wire_faults : change.wire_after.faults ≡ change.wire.faults
+
+-- the status is that of what the files come to: 0 where they hold a run, and else that of the refusal
+abbrev pub IsDecided : ℕ → Option RequestOf → Change → Type 0
+IsDecided status None change = Unit {0}
+IsDecided status (Some request) change =
+    (u : IsUndisturbed change) → (status ≡ status_after (job_at request u.told.file)) ⊎ (status ≡ 10)

@@ -6,7 +6,8 @@ ghost use Rattle.outer_io.specs.Reads.{Reads};
 ghost use Rattle.jet_refusal.specs.Faults.{IsOutOfMemory};
 ghost use Rattle.command_parts.specs.Saying.{Says};
 ghost use Rattle.gdb_words.specs.Requests.{gdb_app};
-ghost use Rattle.gdb_server.specs.Serving.{change, request_in, names_in, Obeys, IsStatus, IsDone, IsRefused, IsSoFar};
+ghost use Rattle.gdb_server.specs.Serving.{change, request_in, names_in, Obeys};
+ghost use Rattle.gdb_server.specs.Serving.{IsStatus, IsDone, IsRefused, IsDecided, IsSoFar};
 
 use crate::serve::serve;
 use command_parts::conclude;
@@ -59,6 +60,9 @@ pub fn jet_gdb<S: Store, W: Wire, E: Sink>(
     // 2 to 11: a refusal with its cause, whose line is said.
     ensures refused { 2 ≤ result → IsRefused result (request_in words.now) (Says (E.shown err.old) (E.shown err.new))
         (change S.shown W.shown store.old wire.old store.new wire.new) (wire.new ≡ wire.old) }
+    // Where the store and the wire don't fail, the files decide, whatever `err` does and whatever comes.
+    ensures decided { IsDecided result (request_in words.now)
+        (change S.shown W.shown store.old wire.old store.new wire.new) }
     // In any case: nothing passed, or a talk as far as it went; and no file differs.
     ensures so_far { IsSoFar (request_in words.now)
         (change S.shown W.shown store.old wire.old store.new wire.new) (wire.new ≡ wire.old) }

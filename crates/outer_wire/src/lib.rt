@@ -4,7 +4,7 @@
 //! answer was sent whole before more was asked for. It is a trait in the style of `outer_io`'s: it tells or not, its
 //! faults are counted, and a form in memory says all by a relation.
 //!
-//! [`MachineWire`] is the machine's. It is trusted, and tells nothing. The form in memory is that of `memory_outside`.
+//! [`MachineWire`] is the machine's. It is trusted, and tells nothing. The form in memory is that of `memory_wire`.
 //!
 //! Crates above rest on this: the trait's clauses, which hold of every form; `send_whole` sends all bytes, or says why
 //! not, with its cause; `talk` answers over a wire what comes over it, as an [`Answerer`] does, each answer whole before

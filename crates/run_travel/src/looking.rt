@@ -52,7 +52,9 @@ impl<'p> Looking<'p> {
         ensures { self.new ≡ looking self.old.points self.old.aim
             (option_or self.old.met (find (meets_bytes written read) self.old.points.watches)) }
     {
-        self.met = self.met.or(self.points.met_by_bytes(written, read));
+        if let Some(watch) = self.points.met_by_bytes(written, read) {
+            self.met = self.met.or(Some(watch));
+        }
     }
 }
 

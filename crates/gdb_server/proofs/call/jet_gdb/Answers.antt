@@ -2,7 +2,7 @@ use Rattle.std.proofs.Common.{◌≡◌, ◌∙◌, sym, subst}
 use Rattle.command_parts.specs.Saying.{Says}
 use Rattle.command_parts.proofs.Statuses.{status_after-is_status, usage}
 use Rattle.gdb_server.specs.Serving.{change, request_in, names_in, IsStatus}
-use Rattle.gdb_server.proofs.Calling.{done, refused, reads_by}
+use Rattle.gdb_server.proofs.Calling.{done, refused, decided, reads_by}
 use Rattle.gdb_server.proofs.call.jet_gdb.Goals as goal
 
 pub returns-clause-status : goal.returns-clause-status
@@ -21,6 +21,11 @@ returns-clause-refused g c = refused (request_in c.args.words.now)
     (change g.S.Store.shown g.W.Wire.shown c.args.store.now c.args.wire.now c.obey-outcome.new.store c.obey-outcome.new.wire)
     (c.obey-outcome.new.wire ≡ c.args.wire.now) (Says (g.E.Sink.shown c.args.err.now) (g.E.Sink.shown c.conclude.new.err)) c.obey-outcome.result _
     c.conclude.ensures.status c.obey-outcome.ensures.obeys.ends c.conclude.ensures.says
+
+pub returns-clause-decided : goal.returns-clause-decided
+returns-clause-decided g c = decided (request_in c.args.words.now)
+    (change g.S.Store.shown g.W.Wire.shown c.args.store.now c.args.wire.now c.obey-outcome.new.store c.obey-outcome.new.wire)
+    (c.obey-outcome.new.wire ≡ c.args.wire.now) c.obey-outcome.result _ c.conclude.ensures.status c.obey-outcome.ensures.obeys.ends
 
 pub returns-clause-so_far : goal.returns-clause-so_far
 returns-clause-so_far g c = c.obey-outcome.ensures.obeys.so_far

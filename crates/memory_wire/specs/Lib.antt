@@ -1,0 +1,3 @@
+pub mod Passing
+pub mod PassingRoom
+pub mod MemoryWires
