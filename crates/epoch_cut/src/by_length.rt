@@ -1,7 +1,7 @@
 //! How a run is cut.
 
 ghost use Rattle.std.specs.Prelude.{◌≡◌, ◌<◌, ◌≤◌, IfOk, IfErr};
-ghost use Rattle.epoch_model.specs.ByLength.{epoch_count, cut_times};
+ghost use Rattle.epoch_model.specs.ByLength.{epoch_count, cut_times, long_first_times};
 
 use crate::cutting::Cuts;
 use crate::fault::CutFault;
@@ -27,6 +27,21 @@ pub fn cuts(steps: u64, length: u64) -> Result<Cuts, CutFault>
     ensures many { IfErr result (λ fault.
         (fault ≡ CutFault.TooMany (epoch_count steps length)) × (MOST_EPOCHS < epoch_count steps length)) }
 {
+    long_first_cuts(steps, length, 1)
+}
+
+/// The cuts of a run of so many steps into epochs of `length` steps, 1 at least, of which the first has `lengths` such lengths, 1 at
+/// least, or all that there are. It takes no memory.
+///
+/// The fault is TooMany exactly where there would be more than [`MOST_EPOCHS`] epochs of one length each.
+pub fn long_first_cuts(steps: u64, length: u64, lengths: u32) -> Result<Cuts, CutFault>
+    requires length { 1 ≤ length }
+    requires lengths { 1 ≤ lengths }
+    ensures cut { IfOk result (λ cuts. cuts ≡ long_first_times lengths steps length) }
+    ensures few { IfOk result (λ _. epoch_count steps length ≤ MOST_EPOCHS) }
+    ensures many { IfErr result (λ fault.
+        (fault ≡ CutFault.TooMany (epoch_count steps length)) × (MOST_EPOCHS < epoch_count steps length)) }
+{
     let count = epoch_count(steps, length);
     if count > MOST_EPOCHS {
         return Err(CutFault::TooMany(count));
@@ -34,5 +49,6 @@ pub fn cuts(steps: u64, length: u64) -> Result<Cuts, CutFault>
     Ok(Cuts {
         steps,
         epoch_length: length,
+        lengths_of_first: lengths.min(count as u32),
     })
 }

@@ -1,10 +1,15 @@
 //! Laws of the definitions: the functions do nothing, and each contract is a law.
 
-ghost use Rattle.epoch_cut.specs.CutLaws.{CutTimesAreCutting, CutTimesAreCounted, CutTimesAreMultiples};
+ghost use Rattle.epoch_cut.specs.CutLaws.{CutTimesAreCutting, CutTimesAreCounted, CutTimesAreMultiples, LongFirstTimesAreCutting};
 
 /// The times at which the epochs of a run end rise strictly from 0 to its number of steps, and are 0 alone where it has none.
 pub fn cut_times_are_cutting()
     ensures { CutTimesAreCutting }
+{}
+
+/// So do they where the first epoch has several lengths.
+pub fn long_first_times_are_cutting()
+    ensures { LongFirstTimesAreCutting }
 {}
 
 /// There is one epoch for each time that the length goes into the steps, one more for what is left, and one at least. All

@@ -1,15 +1,22 @@
 //! What analyses the epochs of a run.
 
-ghost use Rattle.std.specs.Prelude.{IfOk};
+ghost use Rattle.std.specs.Prelude.{IfOk, IfErr};
+ghost use Rattle.log_model.specs.Logs.{steps};
+ghost use Rattle.no_memory.specs.Faults.{IsCausedBy};
+ghost use Rattle.epoch_model.specs.Cutting.{IsCutting};
+ghost use Rattle.replayer.specs.Checks.{IsChecked, IsMisfit};
 ghost use Rattle.epoch_engine.specs.Collecting.{AreAtBeginnings, AreRowsOf, IsCollectedOf};
 
 use crate::collected::Collected;
 use crate::parallelism::Parallelism;
 use checkpoints::Checkpoints;
+use elf_image::Program;
 use epoch_cut::Cuts;
 use no_memory::NoMemory;
 use outer_io::Gate;
 use query_lang::Query;
+use replay_log::Log;
+use replayer::{CheckFault, Job};
 use sink_collect::SinkSets;
 
 /// Analyses the epochs of a run. It may hold a runtime, start threads and wait.
@@ -19,6 +26,24 @@ pub trait Engine {
 
     /// The analysis of the epoch of this number begins. It changes no result.
     fn enter(&self, epoch: u32);
+
+    /// Checks that a log fits a program, and gives the job of its run, and the rows of the run, which is cut. Its epochs are
+    /// analysed while it is checked, and joined by one log; each is entered as its analysis begins.
+    ///
+    /// The fault is that of [`Job::check`]: the first misfit that holds, or out of memory.
+    fn checked_rows(
+        &self,
+        program: Program,
+        log: Log,
+        query: &Query,
+        cuts: Cuts,
+        parallelism: Parallelism,
+    ) -> Result<(Job, SinkSets), CheckFault>
+        requires ready { ready self.now }
+        requires cutting { IsCutting (steps log) cuts }
+        ensures checked { IfOk result (λ r. IsChecked program.bytes.items program.image log r.0) }
+        ensures rows { IfOk result (λ r. AreRowsOf query.now r.0 r.1) }
+        ensures fault { IfErr result (IsCausedBy (IsMisfit program.bytes.items program.image log)) };
 
     /// The rows of a run that is cut, whose epochs are joined as the parallelism tells. Each epoch is entered as its analysis
     /// begins. It gives up with NoMemory alone.
@@ -47,11 +72,12 @@ pub trait Engine {
         ensures { IfOk result (IsCollectedOf query.now checkpoints.now.job cuts) };
 }
 
-/// An engine that is made of two closures, which are given the checkpoints, the query, the cuts and the parallelism: one for
-/// the rows, and one for all that it collects; and the gate that is told of each epoch.
+/// An engine that is made of three closures: one for the rows of a program and a log that it checks; one for the rows of a run,
+/// and one for all that it collects of it, which are given the checkpoints of the run. And the gate that is told of each epoch.
 #[derive(Drop)]
-pub struct ClosureEngine<'a, G, F, H> {
+pub struct ClosureEngine<'a, G, C, F, H> {
     pub gate: &'a G,
+    pub checked_rows: C,
     pub rows: F,
     pub work: H,
 }
@@ -59,19 +85,38 @@ pub struct ClosureEngine<'a, G, F, H> {
 impl<
     'a,
     G: Gate,
+    C: Fn(Program, Log, &Query, Cuts, Parallelism) -> Result<(Job, SinkSets), CheckFault>,
     F: Fn(&Checkpoints<'_>, &Query, Cuts, Parallelism) -> Result<SinkSets, NoMemory>,
     H: Fn(&Checkpoints<'_>, &Query, Cuts, Parallelism) -> Result<Collected, NoMemory>,
-> Engine for ClosureEngine<'a, G, F, H> {
-    ghost ready = { λ engine. (points : _) (query : _) (cuts : _) (parallelism : _)
+> Engine for ClosureEngine<'a, G, C, F, H> {
+    ghost ready = { λ engine. ((program : _) (log : _) (query : _) (cuts : _) (parallelism : _)
+        → IsCutting (steps log) cuts
+        → (C.pre engine.checked_rows program log query cuts parallelism
+        × ((r : _) → C.post engine.checked_rows program log query cuts parallelism r
+        → IfOk r (λ found. IsChecked program.bytes.items program.image log found.0)
+        × (IfOk r (λ found. AreRowsOf query.now found.0 found.1)
+        × IfErr r (IsCausedBy (IsMisfit program.bytes.items program.image log))))))
+        × ((points : _) (query : _) (cuts : _) (parallelism : _)
         → AreAtBeginnings cuts points.now
         → (F.pre engine.rows points query cuts parallelism
         × ((r : _) → F.post engine.rows points query cuts parallelism r → IfOk r (AreRowsOf query.now points.now.job)))
         × (H.pre engine.work points query cuts parallelism
         × ((r : _) → H.post engine.work points query cuts parallelism r
-        → IfOk r (IsCollectedOf query.now points.now.job cuts))) };
+        → IfOk r (IsCollectedOf query.now points.now.job cuts)))) };
 
     fn enter(&self, epoch: u32) {
         self.gate.enter(epoch);
+    }
+
+    fn checked_rows(
+        &self,
+        program: Program,
+        log: Log,
+        query: &Query,
+        cuts: Cuts,
+        parallelism: Parallelism,
+    ) -> Result<(Job, SinkSets), CheckFault> {
+        (self.checked_rows)(program, log, query, cuts, parallelism)
     }
 
     fn rows(

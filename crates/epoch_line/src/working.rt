@@ -1,12 +1,18 @@
 //! The rows of a run that is cut, from its epochs to what these come to.
 
-ghost use Rattle.std.specs.Prelude.{◌≡◌, map, IfOk};
+ghost use Rattle.std.specs.Prelude.{◌≡◌, map, IfOk, IfErr};
+ghost use Rattle.log_model.specs.Logs.{steps};
+ghost use Rattle.no_memory.specs.Faults.{IsCausedBy};
 ghost use Rattle.report_model.specs.Rows.{rows_as_written};
+ghost use Rattle.epoch_model.specs.Cutting.{IsCutting};
+ghost use Rattle.replayer.specs.Checks.{IsChecked, IsMisfit};
 ghost use Rattle.epoch_summary.specs.Summaries.{summary_of};
 ghost use Rattle.summary_join.specs.Runs.{AreOfRun, CutTrace};
 ghost use Rattle.epoch_engine.specs.Collecting.{AreAtBeginnings, AreRowsOf, IsCollectedOf};
 
+use checked_epochs::check_and_analyse;
 use checkpoints::Checkpoints;
+use elf_image::Program;
 use epoch_analysis::analyse_all;
 use epoch_cut::Cuts;
 use epoch_engine::{Collected, Joining, Parallelism};
@@ -16,6 +22,8 @@ use epoch_turns::work_in_groups;
 use no_memory::NoMemory;
 use outer_io::Gate;
 use query_lang::Query;
+use replay_log::Log;
+use replayer::{CheckFault, Job};
 use sink_collect::SinkSets;
 use std::alloc::Global;
 use std::sync::Wait;
@@ -83,6 +91,33 @@ pub fn rows<G: Gate, R: Threads + Wait + Sync>(
             joined_rows(rt, alloc, summaries, workers)
         }
     }
+}
+
+/// Checks that a log fits a program, and gives the job of its run, and the rows of the run, which is cut. Its epochs are analysed
+/// in threads of `rt` while it is checked, and joined by one log; each enters the gate as its analysis begins.
+///
+/// The fault is that of [`Job::check`]: the first misfit that holds, or out of memory.
+pub fn checked_rows<G: Gate, R: Threads + Wait + Sync>(
+    rt: &R,
+    alloc: Global,
+    gate: &G,
+    program: Program,
+    log: Log,
+    query: &Query,
+    cuts: Cuts,
+    parallelism: Parallelism,
+) -> Result<(Job, SinkSets), CheckFault>
+    requires cutting { IsCutting (steps log) cuts }
+    ensures checked { IfOk result (λ r. IsChecked program.bytes.items program.image log r.0) }
+    ensures rows { IfOk result (λ r. AreRowsOf query.now r.0 r.1) }
+    ensures fault { IfErr result (IsCausedBy (IsMisfit program.bytes.items program.image log)) }
+{
+    // The contract of this says that the points are at locations.
+    let _points = query.points();
+    let workers = parallelism.workers;
+    let (job, summaries) = check_and_analyse(rt, alloc, gate, program, log, query, cuts)?;
+    let rows = joined_rows(rt, alloc, summaries, workers)?;
+    Ok((job, rows))
 }
 
 /// The rows of a run of the summaries of all its epochs, which are joined by one log, and whose rows all workers make. It gives

@@ -1,5 +1,9 @@
 //! The call: words, and an outside.
-ghost use Rattle.std.specs.Prelude.{◌≡◌, ◌⊎◌, ◌≤◌, false, map, string_bytes, IfOk};
+ghost use Rattle.std.specs.Prelude.{◌≡◌, ◌⊎◌, ◌≤◌, false, map, string_bytes, IfOk, IfErr};
+ghost use Rattle.log_model.specs.Logs.{steps};
+ghost use Rattle.no_memory.specs.Faults.{IsCausedBy};
+ghost use Rattle.epoch_model.specs.Cutting.{IsCutting};
+ghost use Rattle.replayer.specs.Checks.{IsChecked, IsMisfit};
 ghost use Rattle.clap.specs.Words.{takes};
 ghost use Rattle.jet_words.specs.CommandLine.{jet_app};
 ghost use Rattle.jet_commands.specs.Targets.{IfFile, OpensAll, OpensFirst, KeepsAll, KeepsBut};
@@ -12,13 +16,16 @@ ghost use Rattle.jet_cli.specs.Statuses.{IsStatus, IsDone, IsDoneInPart, IsRefus
 
 use checkpoints::Checkpoints;
 use command_parts::conclude;
+use elf_image::Program;
 use epoch_cut::Cuts;
 use epoch_engine::{ClosureEngine, Collected, Parallelism};
-use epoch_line::{rows, work};
+use epoch_line::{checked_rows, rows, work};
 use jet_commands::obey;
 use no_memory::NoMemory;
 use outer_io::{Clock, Gate, Sink, Store};
 use query_lang::Query;
+use replay_log::Log;
+use replayer::{CheckFault, Job};
 use sink_collect::SinkSets;
 use std::sync::Wait;
 use std::thread::Threads;
@@ -66,6 +73,15 @@ pub fn jet<R: Threads + Wait + Sync + AllocGlobal, S: Store, O: Sink, E: Sink, K
     let alloc = rt.alloc();
     let line = ClosureEngine {
         gate,
+        checked_rows: |program: Program, log: Log, query: &Query, cuts: Cuts, parallelism: Parallelism| -> Result<
+            (Job, SinkSets),
+            CheckFault,
+        >
+            requires cutting { IsCutting (steps log) cuts }
+            ensures checked { IfOk result (λ r. IsChecked program.bytes.items program.image log r.0) }
+            ensures rows { IfOk result (λ r. AreRowsOf query.entry.now r.0 r.1) }
+            ensures fault { IfErr result (IsCausedBy (IsMisfit program.bytes.items program.image log)) }
+        { checked_rows(rt, alloc, gate, program, log, query, cuts, parallelism) },
         rows: |checkpoints: &Checkpoints<
             '_,
         >, query: &Query, cuts: Cuts, parallelism: Parallelism| -> Result<SinkSets, NoMemory>

@@ -11,7 +11,7 @@ use Rattle.jet_refusal.specs.declared.refusal.Refusal.{Refusal}
 use Rattle.jet_refusal.specs.declared.refusal.Refusal.TheVariants as refusal
 use Rattle.jet_model.specs.Lengths.{epoch_length}
 use Rattle.jet_model.specs.Answer.{told_check}
-use Rattle.jet_model.proofs.Lengths.{few_of_length, untold-few}
+use Rattle.jet_model.proofs.Lengths.{few_of_length, untold_lengths-few}
 
 fewer : (n m length : ℕ) → 1 ≤ length → n ≤ m → epoch_count n length ≤ epoch_count m length
 fewer n m length some within =
@@ -34,6 +34,6 @@ IsLength told = IfSome told (λ n. (1 ≤ n) × (n ≤ 1099511627776))
 
 pub few_of_beginning : (told : Option ℕ) (workers : ℕ) (log : Log) (n : ℕ) → IsLength told → 1 ≤ workers → workers ≤ 64 → told_check told log ≡ Ok tt → n ≤ steps log
     → epoch_count n (epoch_length told workers n) ≤ 4096
-few_of_beginning None workers log n range some most check within = omega (arith, untold-few workers n some, most)
+few_of_beginning None workers log n range some most check within = omega (arith, untold_lengths-few workers n, most)
 few_of_beginning (Some e) workers log n range some most check within =
     omega (arith, fewer n (steps log) e range.0 within, few_where_checked (epoch_count (steps log) e) check)

@@ -1,5 +1,5 @@
 //! How much of a run is analysed for a query, and where it is cut into epochs.
-ghost use Rattle.std.specs.Prelude.{◌≡◌, ◌≤◌, IfOk};
+ghost use Rattle.std.specs.Prelude.{◌≡◌, ◌≤◌, None, IfOk};
 ghost use Rattle.log_model.specs.Logs.{steps};
 ghost use Rattle.epoch_model.specs.ByLength.{epoch_count, cut_times};
 ghost use Rattle.epoch_model.specs.Cutting.{IsCutting};
@@ -10,8 +10,8 @@ ghost use Rattle.command_parts.specs.Outcome.{IsWork, seen_by};
 ghost use Rattle.run_query.specs.Parts.{IsEnough};
 ghost use Rattle.jet_commands.specs.Parts.{part_by};
 
-use epoch_cut::laws::cut_times_are_cutting;
-use epoch_cut::{CutFault, Cuts, cuts};
+use epoch_cut::laws::{cut_times_are_cutting, long_first_times_are_cutting};
+use epoch_cut::{CutFault, Cuts, cuts, long_first_cuts};
 use jet_refusal::Refusal;
 use jet_words::Pipeline;
 use query_lang::Query;
@@ -23,15 +23,22 @@ use run_query::Part;
 /// An epoch has at least so many steps, but for the last one, unless the words tell its length.
 const LEAST_LENGTH: u64 = 262144;
 
-/// The length of the epochs of a run of so many steps: as the words tell it, or such that there is an epoch for each
-/// worker.
-fn epoch_length(told: Option<u64>, workers: u32, steps: u64) -> u64
-    requires { 1 ≤ workers }
-    ensures { result ≡ epoch_length told workers steps }
+/// The first epoch has so many lengths, unless the words tell the length: it ends when the others do, which begin later and cost
+/// more.
+const LENGTHS_OF_FIRST: u32 = 3;
+
+/// The cuts of so many steps of a run, such that there is an epoch for each worker.
+fn untold_cuts(steps: u64, workers: u32) -> Cuts
+    requires { workers ≤ 64 }
+    ensures times { result ≡ cuts_by None workers steps }
+    ensures cutting { IsCutting steps result }
 {
-    match told {
-        Some(length) => length,
-        None => steps.div_ceil(u64::from(workers)).max(LEAST_LENGTH),
+    long_first_times_are_cutting();
+    let lengths = u64::from(workers) + u64::from(LENGTHS_OF_FIRST) - 1;
+    let length = steps.div_ceil(lengths).max(LEAST_LENGTH);
+    match long_first_cuts(steps, length, LENGTHS_OF_FIRST) {
+        Ok(cuts) => cuts,
+        Err(CutFault::TooMany(_)) => unreachable!(),
     }
 }
 
@@ -57,8 +64,10 @@ fn cuts_by(log: &Log, pipeline: Pipeline) -> Result<Cuts, Refusal>
     ensures check { IsWork (told_check pipeline.epoch log.now) (seen_by (λ cuts. tt) result) }
     ensures cutting { IfOk result (λ cuts. IsCutting (steps log.now) cuts) }
 {
-    let length = epoch_length(pipeline.epoch, pipeline.workers, steps_of(log));
-    cuts_of(log, length)
+    match pipeline.epoch {
+        Some(length) => cuts_of(log, length),
+        None => Ok(untold_cuts(steps_of(log), pipeline.workers)),
+    }
 }
 
 /// The cuts of so many first steps of a run into epochs, as the words tell their length, or as there are workers.
@@ -69,7 +78,9 @@ fn cuts_of_beginning(beginning: u64, pipeline: Pipeline) -> Cuts
     ensures cutting { IsCutting beginning result }
 {
     cut_times_are_cutting();
-    let length = epoch_length(pipeline.epoch, pipeline.workers, beginning);
+    let Some(length) = pipeline.epoch else {
+        return untold_cuts(beginning, pipeline.workers);
+    };
     match cuts(beginning, length) {
         Ok(cuts) => cuts,
         Err(CutFault::TooMany(_)) => unreachable!(),

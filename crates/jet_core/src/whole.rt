@@ -1,10 +1,12 @@
 //! A query over a whole run, by the line of nodes, on one thread, and by one log.
 
-ghost use Rattle.std.specs.Prelude.{◌≡◌, IfOk};
+ghost use Rattle.std.specs.Prelude.{◌≡◌, IfOk, IfErr};
 ghost use Rattle.log_model.specs.Logs.{steps};
 ghost use Rattle.report_model.specs.Rows.{rows};
 ghost use Rattle.epoch_model.specs.Cutting.{IsCutting};
+ghost use Rattle.no_memory.specs.Faults.{IsCausedBy};
 ghost use Rattle.stream_model.specs.Work.{run_work};
+ghost use Rattle.replayer.specs.Checks.{IsChecked, IsMisfit};
 ghost use Rattle.replayer.specs.Jobs.{trace_of};
 ghost use Rattle.sink_collect.specs.Pairs.{capped};
 ghost use Rattle.run_query.specs.Crossings.{crossed};
@@ -12,14 +14,16 @@ ghost use Rattle.epoch_engine.specs.Collecting.{AreAtBeginnings, AreRowsOf, IsCo
 
 use crate::analysing::rows_at_once;
 use checkpoints::Checkpoints;
+use elf_image::Program;
 use epoch_cut::Cuts;
 use epoch_engine::{ClosureEngine, Collected, Parallelism};
-use epoch_line::{rows, work};
+use epoch_line::{checked_rows, rows, work};
 use epoch_link::Capacity;
 use no_memory::NoMemory;
 use outer_io::Gate;
 use query_lang::Query;
-use replayer::Job;
+use replay_log::Log;
+use replayer::{CheckFault, Job};
 use run_query::{Crossed, QueryAnswer, answer_with};
 use seq_taint::rows_are_distinct;
 use sink_collect::{Report, SinkSets, gather};
@@ -46,6 +50,15 @@ pub fn query<G: Gate, R: Threads + Wait + Sync>(
 {
     let line = ClosureEngine {
         gate,
+        checked_rows: |program: Program, log: Log, query: &Query, cuts: Cuts, parallelism: Parallelism| -> Result<
+            (Job, SinkSets),
+            CheckFault,
+        >
+            requires cutting { IsCutting (steps log) cuts }
+            ensures checked { IfOk result (λ r. IsChecked program.bytes.items program.image log r.0) }
+            ensures rows { IfOk result (λ r. AreRowsOf query.entry.now r.0 r.1) }
+            ensures fault { IfErr result (IsCausedBy (IsMisfit program.bytes.items program.image log)) }
+        { checked_rows(rt, alloc, gate, program, log, query, cuts, parallelism) },
         rows: |checkpoints: &Checkpoints<
             '_,
         >, query: &Query, cuts: Cuts, parallelism: Parallelism| -> Result<SinkSets, NoMemory>

@@ -1,15 +1,16 @@
 -- How many epochs a run has where the words tell no length. Crates above cite these lemmas.
-use Rattle.std.proofs.Common.{◌≡◌, ap, refl, arith, ℕ, ◌≤◌, ◌<◌, ◌+◌, ◌*◌, inl, inr, Option, Some, None, Ok, Err, Bool}
+use Rattle.std.proofs.Common.{◌≡◌, ap, refl, arith, ℕ, ◌≤◌, ◌<◌, ◌+◌, ◌-◌, ◌*◌, min, length, inl, inr, Option, Some, None, Ok, Err, Bool}
 use Rattle.std.specs.Prelude.{if◌then◌else◌}
 use Rattle.std.specs.Int.{div_ceil}
 use Rattle.std.proofs.Math.Nat.{add-mul}
 use Rattle.std.proofs.lemmas.Bool.{le-ltb, cases_lt}
 use Rattle.std.proofs.lemmas.Grind.{div_ceil_times}
+use Rattle.std.proofs.lemmas.List.FromFn.{length-map-range_with_len}
 use Rattle.std.proofs.lemmas.Nat.{mul-le}
 use Rattle.log_model.specs.Logs.{Log, steps}
-use Rattle.epoch_model.specs.ByLength.{epoch_count}
+use Rattle.epoch_model.specs.ByLength.{epoch_count, cut_at, cut_times_from}
 use Rattle.jet_refusal.specs.declared.refusal.Refusal.TheVariants as refusal
-use Rattle.jet_model.specs.Lengths.{epoch_length}
+use Rattle.jet_model.specs.Lengths.{lengths_of_first, epoch_length, cuts_by}
 use Rattle.jet_model.specs.Answer.{epochs_check, told_check}
 
 -- what fits q times with less than one left over is no more than q
@@ -26,17 +27,25 @@ few_of_length n length q some one within =
     let few = at_most (div_ceil n length) q length (omega (arith, ceil.1, within)) in
     omega (arith, few, one)
 
-pub untold-few : (workers n : ℕ) → 1 ≤ workers → epoch_count n (epoch_length None workers n) ≤ workers
-untold-few workers n some =
-    let ceil = div_ceil_times n workers some in
+pub untold_lengths-few : (workers n : ℕ) → epoch_count n (epoch_length None workers n) ≤ workers + 2
+untold_lengths-few workers n =
+    let ceil = div_ceil_times n (workers + 2) (omega arith) in
     let length = epoch_length None workers n in
-    few_of_length n length workers (omega arith) some
-    (omega (arith, ceil.0, mul-le workers (div_ceil n workers) workers length (omega arith) (omega arith)))
+    few_of_length n length (workers + 2) (omega arith) (omega arith)
+    (omega (arith, ceil.0, mul-le (workers + 2) (div_ceil n (workers + 2)) (workers + 2) length (omega arith) (omega arith)))
 
-pub untold-checked : (told : Option ℕ) (workers : ℕ) (log : Log) → 1 ≤ workers → workers ≤ 4096
+pub untold-few : (workers n : ℕ) → 1 ≤ workers → length (cuts_by None workers n) ≤ workers
+unfolding cut_times_from
+untold-few workers n some =
+    let by = epoch_length None workers n in
+    let count = epoch_count n by in
+    let first = min lengths_of_first count in
+    omega (arith, length-map-range_with_len (cut_at n by) first (count + 1 - first), untold_lengths-few workers n, some)
+
+pub untold-checked : (told : Option ℕ) (workers : ℕ) (log : Log) → workers ≤ 64
     → epochs_check (epoch_length told workers (steps log)) log ≡ told_check told log
-untold-checked (Some epoch) workers log some most = refl
-untold-checked None workers log some most =
+untold-checked (Some epoch) workers log most = refl
+untold-checked None workers log most =
     let count = epoch_count (steps log) (epoch_length None workers (steps log)) in
     ap (λ (b : Bool). if b then Err (refusal.TooManyEpochs count) else Ok tt)
-    (le-ltb 4096 count (omega (arith, untold-few workers (steps log) some, most)))
+    (le-ltb 4096 count (omega (arith, untold_lengths-few workers (steps log), most)))

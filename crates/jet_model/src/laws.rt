@@ -11,21 +11,20 @@ ghost use Rattle.report_model.specs.Influence.{chosen_sources};
 ghost use Rattle.replay_model.specs.Run.{trace};
 ghost use Rattle.replay_model.specs.Comparison.{divergence};
 ghost use Rattle.record_model.specs.Recorded.{Setting, IsRecorded};
-ghost use Rattle.epoch_model.specs.ByLength.{epoch_count};
 ghost use Rattle.jet_refusal.specs.declared.refusal.Refusal.{Refusal};
 ghost use Rattle.jet_model.specs.Contents.{Contents, Names};
 ghost use Rattle.jet_model.specs.Sources.{received_sources};
-ghost use Rattle.jet_model.specs.Lengths.{epoch_length};
+ghost use Rattle.jet_model.specs.Lengths.{epoch_length, cuts_by};
 ghost use Rattle.jet_model.specs.Answer.{epochs_check, told_check};
 ghost use Rattle.jet_model.specs.Answer.{Limits, query_answer, queries_answer, run_answer, convert_answer, IsRecordAnswer, HoldsBytes, AreInRange, RecordAnswer};
 ghost use Rattle.jet_model.specs.Headline.{IsGivenByQuery, AreReportsOf, IsGivenBy, IsConversionOf, IsRecordingOf};
 ghost use Rattle.jet_model.specs.Headline.{IsShort, AreShort, AreAllShort, HasFewIfTold};
 
-/// Where the words tell no length, a run has no more epochs than workers. So a run is refused for its epochs only where
-/// it has too many of the length that is told.
+/// Where the words tell no length, a run has no more epochs than workers, and few lengths. So a run is refused for its epochs
+/// only where it has too many of the length that is told.
 pub fn untold_epochs_are_few()
-    ensures few { (workers steps : ℕ) → 1 ≤ workers → epoch_count steps (epoch_length None workers steps) ≤ workers }
-    ensures check { (told : Option ℕ) (workers : ℕ) (log : Log) → 1 ≤ workers → workers ≤ 4096
+    ensures few { (workers steps : ℕ) → 1 ≤ workers → length (cuts_by None workers steps) ≤ workers }
+    ensures check { (told : Option ℕ) (workers : ℕ) (log : Log) → workers ≤ 64
         → epochs_check (epoch_length told workers (steps log)) log ≡ told_check told log }
 {}
 

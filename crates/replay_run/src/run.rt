@@ -143,6 +143,16 @@ impl<'a> Run<'a> {
         }
     }
 
+    /// The machine, and the numbers beside it and the log, with which [`Run::resume`] makes the run again. It takes no memory.
+    pub fn into_parts(self) -> (Machine, Counters)
+        ensures counted { CountRecords self.entry.log result.1 }
+        ensures machine { result.0 ≡ hart_of self.entry }
+        ensures again { run_at self.entry.log result.1.time result.0 result.1.done ≡ self.entry }
+    {
+        let counters = self.counters();
+        (self.machine, counters)
+    }
+
     /// The log.
     pub fn log(&self) -> &'a Log
         ensures { result.now ≡ self.now.log }

@@ -98,6 +98,18 @@ impl<'a> Checker<'a> {
         Ok(CursorState { machine, counters })
     }
 
+    /// The state, from which [`Checker::resume`] goes on as this check does. It takes no memory.
+    pub fn into_state(self) -> CursorState
+        ensures counted { CountRecords self.entry.log result.counters }
+        ensures again { resumed self.entry.log result ≡ self.entry }
+    {
+        let (machine, counters) = self.run.into_parts();
+        CursorState {
+            machine: machine.into_state(),
+            counters,
+        }
+    }
+
     /// Goes on to a time, no earlier than where it stands and at most that of the log's end, and tells the watcher of the steps.
     /// It says where the log differs from the run before.
     pub fn go_to<W: Watcher>(self, until: u64, watcher: &mut W) -> Result<Checker<'a>, Divergence>

@@ -17,7 +17,7 @@ use crate::part::Part;
 use checkpoints::CheckpointTaker;
 use elf_image::Program;
 use epoch_cut::Cuts;
-use epoch_engine::{Engine, Parallelism};
+use epoch_engine::{Engine, Joining, Parallelism};
 use no_memory::NoMemory;
 use query_lang::Query;
 use replay_log::Log;
@@ -54,15 +54,45 @@ pub fn check_and_query<E: Engine>(
                 let report = report_of(alloc, &job, query, sinks.rows(alloc)?)?;
                 return Ok((job, report));
             }
-            let (job, taker) = check_parts(alloc, program, log, &cuts)?;
-            let report = report_of_taken(engine, alloc, &job, taker, query, cuts, parallelism)?;
-            Ok((job, report))
+            query_epochs(engine, alloc, program, log, query, cuts, parallelism)
         }
         Part::Beginning { steps, cuts } => {
             let Program { bytes, image } = program;
             let job = Job::check(alloc, &bytes, image, log)?;
             let found = query_beginning(engine, alloc, job, query, steps, cuts, parallelism)?;
             Ok(found)
+        }
+    }
+}
+
+/// Checks that a log fits a program, and gives the job of its run, and the report of a query over the run, which has several
+/// epochs. Where links join these, they begin at checkpoints that the check takes; else the engine has them analysed while the
+/// check goes on. The fault is that of [`check_and_query`].
+fn query_epochs<E: Engine>(
+    engine: &E,
+    alloc: Global,
+    program: Program,
+    log: Log,
+    query: &Query,
+    cuts: Cuts,
+    parallelism: Parallelism,
+) -> Result<(Job, Report), CheckFault>
+    requires ready { E.ready engine.now }
+    requires cutting { IsCutting (steps log) cuts }
+    ensures checked { IfOk result (λ r. IsChecked program.bytes.items program.image log r.0) }
+    ensures report { IfOk result (λ r. r.1 ≡ rows query.now (trace_of r.0)) }
+    ensures fault { IfErr result (IsCausedBy (IsMisfit program.bytes.items program.image log)) }
+{
+    match parallelism.joining {
+        Joining::ByLinks => {
+            let (job, taker) = check_parts(alloc, program, log, &cuts)?;
+            let report = report_of_taken(engine, alloc, &job, taker, query, cuts, parallelism)?;
+            Ok((job, report))
+        }
+        Joining::ByOneLog => {
+            let (job, sets) = engine.checked_rows(program, log, query, cuts, parallelism)?;
+            let report = report_of(alloc, &job, query, sets.into_vec())?;
+            Ok((job, report))
         }
     }
 }

@@ -5,7 +5,8 @@
 //! Crates above rest on this: `query` gives the rows of the run, what crosses each inner cut, and how many events moved.
 //! `check_and_query` is `replayer::Job::check`, and gives the rows of the run too, of which it analyses all or the first
 //! steps alone, where they are enough. Of the whole run it finds what it needs in the replay that checks the log: its sinks
-//! (`seq_taint::check_whole`), or the checkpoints at its cuts (`check_parts`). `number` gives what was asked at the cuts their numbers.
+//! (`seq_taint::check_whole`), the checkpoints at its cuts (`check_parts`), or its rows, by an engine that analyses its epochs
+//! meanwhile. `number` gives what was asked at the cuts their numbers.
 #![tactic(auto)]
 
 mod answer;

@@ -57,6 +57,14 @@ impl Machine {
         Ok(MachineState { state })
     }
 
+    /// The state, where no call waits. It takes no memory.
+    pub fn into_state(self) -> MachineState
+        requires { self.waits ≡ false }
+        ensures { result ≡ self.state }
+    {
+        MachineState { state: self.state }
+    }
+
     /// The bytes of the window, lent, and all else, where no call waits. It takes no memory.
     pub fn parts(&self) -> (&[u8], Rest)
         requires { self.now.waits ≡ false }

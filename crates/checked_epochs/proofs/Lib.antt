@@ -1,0 +1,6 @@
+mod Following
+mod Leading
+mod Beginning
+mod Resting
+mod Cutting
+mod Opening
