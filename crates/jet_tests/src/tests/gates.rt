@@ -49,9 +49,9 @@ fn two_epochs_of_a_command_are_at_work_at_once(rt: HostRuntime) {
     assert!(rt; gate.is_met());
 }
 
-/// Counts down from 131072 and exits: 262,147 steps.
+/// Counts down from 393216 and exits: 786,435 steps, three more than three epochs of the least length have.
 const COUNT_DOWN: [Instr; 5] = code![
-    lui(x5, 0x20000),
+    lui(x5, 0x60000),
     addi(x5, x5, -1),
     bne(x5, x0, -4),
     li(x17, 93),
@@ -61,20 +61,20 @@ const COUNT_DOWN: [Instr; 5] = code![
 /// A store of the files of that run, and this query.
 fn counted(rt: &impl Runtime, query: &str) -> MemoryStore {
     let program = program(rt, &COUNT_DOWN);
-    let log = log_of(rt, &program, 1, 0, &[Entry::Exit(262146, 0)]);
+    let log = log_of(rt, &program, 1, 0, &[Entry::Exit(786434, 0)]);
     store_with(rt, &program, &log, query.as_bytes(), NEVER, 65536, 0)
 }
 
 /// A point at that run's end, and the report.
 const AT_THE_END: (&str, &str) = (
-    "rule copy\nsource all\nsink mem 0 1 at 262147\n",
-    "m:0@262147\nend 1\n",
+    "rule copy\nsource all\nsink mem 0 1 at 786435\n",
+    "m:0@786435\nend 1\n",
 );
 
 /// The last point before its half.
 const BEFORE_THE_HALF: (&str, &str) = (
-    "rule copy\nsource all\nsink mem 0 1 at 131072\n",
-    "m:0@131072\nend 1\n",
+    "rule copy\nsource all\nsink mem 0 1 at 393216\n",
+    "m:0@393216\nend 1\n",
 );
 
 /// A point in its first steps.
@@ -85,10 +85,10 @@ const EARLY: (&str, &str) = (
 
 const BY_ONE: Line = "jet query prog log query --workers 1";
 
-const BY_EIGHTHS: Line = "jet query prog log query --epoch 32769 --workers 2";
+const BY_EIGHTHS: Line = "jet query prog log query --epoch 98305 --workers 2";
 
-/// Queries over that run with their reports, and how many epochs enter the gate. Unless their length is told there is one
-/// for each worker, of 262,144 steps at least. Where fewer than half of the steps are needed, these alone are cut.
+/// Queries over that run with their reports, and how many epochs enter the gate. Unless their length is told the first is
+/// as long as three others, of 262,144 steps at least. Where fewer than half of the steps are needed, these alone are cut.
 const SHARES: &[(Line, (&str, &str), u32)] = &[
     (BY_ONE, AT_THE_END, 1),
     (QUERY, AT_THE_END, 2),
@@ -100,7 +100,7 @@ const SHARES: &[(Line, (&str, &str), u32)] = &[
 ];
 
 #[test]
-fn what_is_analysed_has_an_epoch_for_each_worker(rt: HostRuntime) {
+fn what_is_analysed_is_cut_for_the_workers(rt: HostRuntime) {
     for &(line, (query, report), epochs) in SHARES {
         let gate = CountingGate::new(rt.alloc(), epochs).expect(&rt, "memory");
         let store = counted(&rt, query);

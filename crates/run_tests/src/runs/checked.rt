@@ -1,21 +1,27 @@
 //! Queries that are answered of the replay that checks the log.
 
-ghost use Rattle.std.specs.Prelude.{IfOk};
+ghost use Rattle.std.specs.Prelude.{IfOk, IfErr};
+ghost use Rattle.log_model.specs.Logs.{steps};
+ghost use Rattle.no_memory.specs.Faults.{IsCausedBy};
+ghost use Rattle.epoch_model.specs.Cutting.{IsCutting};
+ghost use Rattle.replayer.specs.Checks.{IsChecked, IsMisfit};
 ghost use Rattle.epoch_engine.specs.Collecting.{AreAtBeginnings, AreRowsOf, IsCollectedOf};
 
 use super::{COPIED, COPY, assert_text, query_of, sequential_report};
 use crate::guests::{COPY_FOUR, Recorded, Runtime, job_of, unchecked};
 use checkpoints::Checkpoints;
+use elf_image::Program;
 use epoch_cut::laws::cut_times_are_cutting;
 use epoch_cut::{Cuts, cuts};
 use epoch_engine::{ClosureEngine, Collected, Joining, Parallelism};
-use epoch_line::{rows, work};
+use epoch_line::{checked_rows, rows, work};
 use epoch_link::Capacity;
 use memory_outside::{CountingGate, MeetingGate};
 use no_memory::NoMemory;
 use outer_io::Gate;
 use query_lang::Query;
-use replayer::steps_of;
+use replay_log::Log;
+use replayer::{CheckFault, Job, steps_of};
 use run_query::{Part, check_and_query};
 use sink_collect::{Report, SinkSets, text};
 
@@ -44,6 +50,15 @@ fn checked_report<G: Gate>(
     let cuts = cuts(steps_of(&log), length).expect(rt, "few epochs");
     let line = ClosureEngine {
         gate,
+        checked_rows: |program: Program, log: Log, query: &Query, cuts: Cuts, parallelism: Parallelism| -> Result<
+            (Job, SinkSets),
+            CheckFault,
+        >
+            requires cutting { IsCutting (steps log) cuts }
+            ensures checked { IfOk result (λ r. IsChecked program.bytes.items program.image log r.0) }
+            ensures rows { IfOk result (λ r. AreRowsOf query.entry.now r.0 r.1) }
+            ensures fault { IfErr result (IsCausedBy (IsMisfit program.bytes.items program.image log)) }
+        { checked_rows(rt, alloc, gate, program, log, query, cuts, parallelism) },
         rows: |checkpoints: &Checkpoints<
             '_,
         >, query: &Query, cuts: Cuts, parallelism: Parallelism| -> Result<SinkSets, NoMemory>
