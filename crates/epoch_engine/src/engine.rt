@@ -6,6 +6,7 @@ ghost use Rattle.no_memory.specs.Faults.{IsCausedBy};
 ghost use Rattle.epoch_model.specs.Cutting.{IsCutting};
 ghost use Rattle.replayer.specs.Checks.{IsChecked, IsMisfit};
 ghost use Rattle.epoch_engine.specs.Collecting.{AreAtBeginnings, AreRowsOf, IsCollectedOf};
+ghost use Rattle.epoch_engine.specs.Texts.{AreTextsOf};
 
 use crate::collected::Collected;
 use crate::parallelism::Parallelism;
@@ -17,7 +18,7 @@ use outer_io::Gate;
 use query_lang::Query;
 use replay_log::Log;
 use replayer::{CheckFault, Job};
-use sink_collect::SinkSets;
+use sink_collect::{SinkSet, SinkSets};
 
 /// Analyses the epochs of a run. It may hold a runtime, start threads and wait.
 pub trait Engine {
@@ -70,16 +71,24 @@ pub trait Engine {
         requires ready { ready self.now }
         requires checkpoints { AreAtBeginnings cuts checkpoints.now }
         ensures { IfOk result (IsCollectedOf query.now checkpoints.now.job cuts) };
+
+    /// The texts of rows, each of some of them, in their order, made by at most so many workers at once. It gives up with NoMemory
+    /// alone.
+    fn texts(&self, rows: &[SinkSet], workers: u32) -> Result<Vec<Vec<u8>>, NoMemory>
+        requires ready { ready self.now }
+        ensures { IfOk result (λ texts. AreTextsOf rows.now texts.items) };
 }
 
-/// An engine that is made of three closures: one for the rows of a program and a log that it checks; one for the rows of a run,
-/// and one for all that it collects of it, which are given the checkpoints of the run. And the gate that is told of each epoch.
+/// An engine that is made of four closures: one for the rows of a program and a log that it checks; one for the rows of a run,
+/// and one for all that it collects of it, which are given the checkpoints of the run; and one for the texts of rows. And the gate
+/// that is told of each epoch.
 #[derive(Drop)]
-pub struct ClosureEngine<'a, G, C, F, H> {
+pub struct ClosureEngine<'a, G, C, F, H, T> {
     pub gate: &'a G,
     pub checked_rows: C,
     pub rows: F,
     pub work: H,
+    pub texts: T,
 }
 
 impl<
@@ -88,7 +97,8 @@ impl<
     C: Fn(Program, Log, &Query, Cuts, Parallelism) -> Result<(Job, SinkSets), CheckFault>,
     F: Fn(&Checkpoints<'_>, &Query, Cuts, Parallelism) -> Result<SinkSets, NoMemory>,
     H: Fn(&Checkpoints<'_>, &Query, Cuts, Parallelism) -> Result<Collected, NoMemory>,
-> Engine for ClosureEngine<'a, G, C, F, H> {
+    T: Fn(&[SinkSet], u32) -> Result<Vec<Vec<u8>>, NoMemory>,
+> Engine for ClosureEngine<'a, G, C, F, H, T> {
     ghost ready = { λ engine. ((program : _) (log : _) (query : _) (cuts : _) (parallelism : _)
         → IsCutting (steps log) cuts
         → (C.pre engine.checked_rows program log query cuts parallelism
@@ -96,13 +106,15 @@ impl<
         → IfOk r (λ found. IsChecked program.bytes.items program.image log found.0)
         × (IfOk r (λ found. AreRowsOf query.now found.0 found.1)
         × IfErr r (IsCausedBy (IsMisfit program.bytes.items program.image log))))))
-        × ((points : _) (query : _) (cuts : _) (parallelism : _)
+        × (((points : _) (query : _) (cuts : _) (parallelism : _)
         → AreAtBeginnings cuts points.now
         → (F.pre engine.rows points query cuts parallelism
         × ((r : _) → F.post engine.rows points query cuts parallelism r → IfOk r (AreRowsOf query.now points.now.job)))
         × (H.pre engine.work points query cuts parallelism
         × ((r : _) → H.post engine.work points query cuts parallelism r
-        → IfOk r (IsCollectedOf query.now points.now.job cuts)))) };
+        → IfOk r (IsCollectedOf query.now points.now.job cuts))))
+        × ((rows : _) (workers : _) → T.pre engine.texts rows workers
+        × ((r : _) → T.post engine.texts rows workers r → IfOk r (λ texts. AreTextsOf rows.now texts.items)))) };
 
     fn enter(&self, epoch: u32) {
         self.gate.enter(epoch);
@@ -137,5 +149,9 @@ impl<
         parallelism: Parallelism,
     ) -> Result<Collected, NoMemory> {
         (self.work)(checkpoints, query, cuts, parallelism)
+    }
+
+    fn texts(&self, rows: &[SinkSet], workers: u32) -> Result<Vec<Vec<u8>>, NoMemory> {
+        (self.texts)(rows, workers)
     }
 }

@@ -2,4 +2,4 @@ use Rattle.epoch_engine.proofs.engine.ClosureEngineEngine.collected.Goals as goa
 
 pub returns : goal.returns
 returns g c =
-    (c.requires.ready.1 c.args.checkpoints c.args.query c.args.cuts c.args.parallelism c.requires.checkpoints).1.1 c.work.result c.work.ensures
+    (c.requires.ready.1.0 c.args.checkpoints c.args.query c.args.cuts c.args.parallelism c.requires.checkpoints).1.1 c.work.result c.work.ensures
