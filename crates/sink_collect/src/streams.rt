@@ -10,30 +10,42 @@ use std::alloc::Global;
 /// So many streams are put one after another at most.
 const MOST_STREAMS: usize = 16;
 
-/// The channel of an output byte, none for a point.
-fn channel_of(sink: SinkPoint) -> Option<u8> {
+/// What a set is of: the output bytes of a channel, or the points. Streams are in the order of a report.
+#[derive(Clone, Copy, PartialEq, Eq, PartialOrd, Ord)]
+enum Stream {
+    Channel(u8),
+    Points,
+}
+
+/// The stream of an output byte or a point.
+fn stream_of(sink: SinkPoint) -> Stream {
     match sink {
-        SinkPoint::Out(byte) => Some(byte.channel),
-        SinkPoint::At(_) => None,
+        SinkPoint::Out(byte) => Stream::Channel(byte.channel),
+        SinkPoint::At(_) => Stream::Points,
     }
 }
 
-/// Whether all sets are of one channel, or all of points.
+/// The least stream of sets; none where there are no sets.
+fn least_stream(sets: &[SinkSet]) -> Option<Stream> {
+    sets.iter().map(|set| stream_of(set.sink())).min()
+}
+
+/// Whether all sets are of one stream.
 fn are_one_stream(sets: &[SinkSet]) -> bool {
     let Some(first) = sets.first() else {
         return true;
     };
-    let channel = channel_of(first.sink());
+    let stream = stream_of(first.sink());
     for set in sets {
-        if channel_of(set.sink()) != channel {
+        if stream_of(set.sink()) != stream {
             return false;
         }
     }
     true
 }
 
-/// The sets in an order that is nearly sorted: those of one channel after those of another, or of points. A run writes the
-/// bytes of each channel in their order, whatever it writes to others in between. It fails only where there is no memory.
+/// The sets in an order that is nearly sorted: those of the least stream, and then those of the next one. A run writes the bytes of
+/// each channel in their order, whatever it writes to others in between. It fails only where there is no memory.
 pub(crate) fn by_stream(alloc: Global, sets: Vec<SinkSet>) -> Result<Vec<SinkSet>, NoMemory>
     ensures { IfOk result (λ all. IsPermutation sets.items all.items) }
 {
@@ -43,20 +55,19 @@ pub(crate) fn by_stream(alloc: Global, sets: Vec<SinkSet>) -> Result<Vec<SinkSet
     let mut all = Vec::with_capacity(alloc, sets.len())?;
     let mut left = sets;
     for _ in 0..MOST_STREAMS {
-        let Some(first) = left.first() else {
+        let Some(least) = least_stream(&left) else {
             break;
         };
-        let channel = channel_of(first.sink());
-        left = take_stream(alloc, channel, left, &mut all)?;
+        left = take_stream(alloc, least, left, &mut all)?;
     }
     all.append(&mut left)?;
     Ok(all)
 }
 
-/// Appends the sets of a channel, or those of points, to others, and gives the rest. It fails only where there is no memory.
+/// Appends the sets of a stream to others, and gives the rest. It fails only where there is no memory.
 fn take_stream(
     alloc: Global,
-    channel: Option<u8>,
+    stream: Stream,
     sets: Vec<SinkSet>,
     taken: &mut Vec<SinkSet>,
 ) -> Result<Vec<SinkSet>, NoMemory>
@@ -64,7 +75,7 @@ fn take_stream(
 {
     let mut rest = Vec::new(alloc);
     for set in sets {
-        if channel_of(set.sink()) == channel {
+        if stream_of(set.sink()) == stream {
             taken.push(set)?;
         } else {
             rest.push(set)?;

@@ -162,7 +162,7 @@ fn add_row<P: Pieces>(place: &mut P, text: &mut RowText, row: &SinkSet) -> Resul
 }
 
 /// Puts the lines of rows, several in one piece.
-fn put_rows<P: Pieces>(place: &mut P, rows: &[SinkSet]) -> Result<(), P::Fault>
+pub fn put_rows<P: Pieces>(place: &mut P, rows: &[SinkSet]) -> Result<(), P::Fault>
     ensures { Puts P.putting place.old (flat_map row_text rows.now) place.new result }
 {
     let mut text = RowText::new();
