@@ -4,3 +4,4 @@ pub mod Pieces
 pub mod PieceLaws
 pub mod Joins
 pub mod Runs
+pub mod First

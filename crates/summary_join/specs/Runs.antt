@@ -1,10 +1,11 @@
 -- The summaries of the epochs of a run.
-use Rattle.std.specs.Prelude.{ℕ, List, length, All}
+use Rattle.std.specs.Prelude.{◌≡◌, ℕ, List, ◌∷◌, length, All}
 use Rattle.flow_model.specs.declared.StepSeen.{StepSeen}
 use Rattle.flow_model.specs.Ranges.{IsInRange}
 use Rattle.report_model.specs.Query.{Query, AreLocated}
 use Rattle.epoch_model.specs.Cutting.{IsCutting}
 use Rattle.epoch_model.specs.Summary.{Summary, AreSummaries}
+use Rattle.summary_join.specs.First.{FirstFound, IsFirstFound}
 
 -- a query over a trace, and where the trace is cut
 pub record CutTrace : Type 0 where
@@ -18,3 +19,14 @@ pub record AreOfRun (run : CutTrace) (es : List Summary) : Type 0 where
   pub located : AreLocated run.query.points
   pub cutting : IsCutting (length run.trace) run.cuts
   pub summaries : AreSummaries run.query run.trace 0 run.cuts es
+
+-- the first of its epochs was found so, and es are the summaries of the later ones, in order
+pub record AreOfRunAfter (run : CutTrace) (first : FirstFound) (es : List Summary) : Type 0 where
+  pub in_range : All IsInRange run.trace
+  pub located : AreLocated run.query.points
+  pub cutting : IsCutting (length run.trace) run.cuts
+  pub past_first : ℕ
+  pub later : List ℕ
+  pub cuts_are : run.cuts ≡ past_first ∷ later
+  pub first_found : IsFirstFound run.query run.trace past_first first
+  pub summaries : AreSummaries run.query run.trace past_first later es

@@ -10,10 +10,12 @@
 
 mod cut;
 mod epoch;
+mod first;
 mod joining;
 pub mod laws;
 mod needs;
 mod nodes;
 mod piece;
 
+pub use first::FirstEpoch;
 pub use joining::join;
