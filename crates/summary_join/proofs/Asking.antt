@@ -25,7 +25,7 @@ use Rattle.summary_join.specs.declared.piece.Piece.{Piece}
 use Rattle.summary_join.specs.Needs.{roots, starts_of}
 use Rattle.summary_join.specs.PieceLaws.{PiecesAskWhatCrosses, PiecesAskWhatIsNeeded}
 use Rattle.summary_join.specs.Pieces.{ArePieces}
-use Rattle.summary_join.specs.Runs.{AreOfRun, CutTrace}
+use Rattle.summary_join.specs.Runs.{AreOfStretch}
 use Rattle.summary_join.proofs.Places.{any_same, at_had}
 
 -- ---- one epoch
@@ -77,10 +77,9 @@ pub located : (q : Query) (trace : List StepSeen) → AllByRecursion IsInRange t
 located q trace steps points s cs es asked ps a h =
     all_had IsLocation asked (λ l k. at_had IsLocation (crossing es) l (located-crossing q trace steps points s cs es a) (sym (pieces_ask es asked ps h l) ∙ k))
 
-pub all_located : (run : CutTrace) (all front later : List EpochSummary) (asked : List Loc) (ps : List Piece) → AreOfRun run all → front ++ later ≡ all → ArePieces later asked ps
-    → All IsLocation asked
-all_located run all front later asked ps r split h =
-    let steps = recursion_from_All IsInRange run.trace r.in_range in
-    let points = recursion_from_All (λ (p : InnerSink). IsLocation p.loc) run.query.points r.located in
-    let are = located_later run.query run.trace steps points 0 run.cuts front later (subst (AreSummaries run.query run.trace 0 run.cuts) (sym split) r.summaries) in
+pub all_located : (all front later : List EpochSummary) (asked : List Loc) (ps : List Piece) → AreOfStretch all → front ++ later ≡ all → ArePieces later asked ps → All IsLocation asked
+all_located all front later asked ps r split h =
+    let steps = recursion_from_All IsInRange r.trace r.in_range in
+    let points = recursion_from_All (λ (p : InnerSink). IsLocation p.loc) r.query.points r.located in
+    let are = located_later r.query r.trace steps points r.start r.cuts front later (subst (AreSummaries r.query r.trace r.start r.cuts) (sym split) r.summaries) in
     All-from_recursion IsLocation asked (all_had IsLocation asked (λ l k. at_had IsLocation (crossing later) l are (sym (pieces_ask later asked ps h l) ∙ k)))

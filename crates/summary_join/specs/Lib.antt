@@ -5,3 +5,4 @@ pub mod PieceLaws
 pub mod Joins
 pub mod Runs
 pub mod First
+pub mod UpTo

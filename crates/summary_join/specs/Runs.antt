@@ -30,3 +30,14 @@ pub record AreOfRunAfter (run : CutTrace) (first : FirstFound) (es : List Summar
   pub cuts_are : run.cuts ≡ past_first ∷ later
   pub first_found : IsFirstFound run.query run.trace past_first first
   pub summaries : AreSummaries run.query run.trace past_first later es
+
+-- es are the summaries of epochs that follow one another in some trace, whose steps are in range, for a query whose points
+-- are at locations
+pub record AreOfStretch (es : List Summary) : Type 0 where
+  pub query : Query
+  pub trace : List StepSeen
+  pub start : ℕ
+  pub cuts : List ℕ
+  pub in_range : All IsInRange trace
+  pub located : AreLocated query.points
+  pub summaries : AreSummaries query trace start cuts es

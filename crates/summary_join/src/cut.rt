@@ -1,11 +1,15 @@
 //! What locations had at a cut.
 
-ghost use Rattle.std.specs.Prelude.{◌≡◌, get_or};
+ghost use Rattle.std.specs.Prelude.{◌≡◌, [], get_or, map, All, IfOk};
+ghost use Rattle.flow_model.specs.Ranges.{IsLocation};
 ghost use Rattle.taint_shadow.specs.Labels.{nothing_label};
+ghost use Rattle.taint_shadow.specs.Places.{kept};
 
 use epoch_summary::Asked;
 use flow_model::Loc;
-use taint_shadow::Label;
+use no_memory::NoMemory;
+use std::alloc::Global;
+use taint_shadow::{Label, Places};
 
 /// The locations that an epoch asks for, and the labels of what they had at its start, in the same order. Those past
 /// the last label had nothing.
@@ -17,6 +21,31 @@ pub struct CutLabels {
 
 impl CutLabels {
     ghost use Rattle.summary_join.specs.Labels.{label_at};
+
+    /// The cut before all epochs, where nothing had anything. It takes no memory.
+    pub fn before_all(alloc: Global, asked: Asked) -> CutLabels
+        ensures asked { result.asked ≡ asked }
+        ensures labels { result.labels.items ≡ [] }
+    {
+        CutLabels {
+            asked,
+            labels: Vec::new(alloc),
+        }
+    }
+
+    /// A cut at which locations have these labels. It gives up with NoMemory alone.
+    pub fn of_places(alloc: Global, asked: Asked, places: &Places) -> Result<CutLabels, NoMemory>
+        requires { All IsLocation asked }
+        ensures asked { IfOk result (λ cut. cut.asked ≡ asked) }
+        ensures labels { IfOk result (λ cut. cut.labels.items ≡ map (kept places.now) asked) }
+    {
+        let mut labels = Vec::with_capacity(alloc, asked.count())?;
+        let locations = asked.locations();
+        for place in 0..locations.len() {
+            labels.push(places.get(locations[place]))?;
+        }
+        Ok(CutLabels { asked, labels })
+    }
 
     /// The label of what a location had: that of nothing where it isn't asked for. Locations that are asked for one after
     /// the other are mostly looked for so: the place after the one that was found last is looked at first.

@@ -1,15 +1,19 @@
 //! The epochs of a run, joined from the first to the last.
 
-ghost use Rattle.std.specs.Prelude.{◌≡◌, List, map, IfOk};
+ghost use Rattle.std.specs.Prelude.{◌≡◌, map, All, IfOk};
+ghost use Rattle.flow_model.specs.Ranges.{IsLocation};
 ghost use Rattle.report_model.specs.Rows.{rows_as_written};
-ghost use Rattle.epoch_model.specs.Summary.{Summary as EpochSummary};
 ghost use Rattle.epoch_summary.specs.Summaries.{summary_of};
-ghost use Rattle.labelled_sinks.specs.Rows.{SinksStand, row_by};
+ghost use Rattle.labelled_sinks.specs.Rows.{SinksStand};
+ghost use Rattle.summary_join.specs.First.{found_of};
+ghost use Rattle.summary_join.specs.Labels.{AllStand};
 ghost use Rattle.summary_join.specs.Pieces.{ArePieces};
-ghost use Rattle.summary_join.specs.Runs.{AreOfRun, CutTrace};
+ghost use Rattle.summary_join.specs.Runs.{AreOfRun, AreOfRunAfter, AreOfStretch, CutTrace};
+ghost use Rattle.summary_join.specs.UpTo.{IsUpTo};
 
 use crate::cut::CutLabels;
 use crate::epoch::join_epoch;
+use crate::first::FirstEpoch;
 use crate::piece::Piece;
 use epoch_summary::{Asked, Summary};
 use labelled_sinks::LabelledSinks;
@@ -27,15 +31,38 @@ pub fn join(alloc: Global, summaries: Vec<Summary>) -> Result<LabelledSinks, NoM
         → IfOk result (λ sinks. sinks ≡ rows_as_written run.query run.trace) }
 {
     let (pieces, asked) = ask(alloc, summaries)?;
-    let (labels, sinks) = label(alloc, pieces, asked)?;
-    Ok(LabelledSinks::new(labels, sinks))
+    let cut = CutLabels::before_all(alloc, asked);
+    label(alloc, SourceLabels::new(alloc), cut, pieces, Vec::new(alloc))
 }
 
-/// The pieces of all epochs, that of the last one first, and what the first one asks for: each epoch asks the one
-/// before it for what its sinks and the next epoch's requests come from. It gives up with NoMemory alone.
+/// The same, of what the analysis of the first epoch found and of the summaries of the later ones. The one log begins as the
+/// first epoch's, of which no node is looked at. It gives up with NoMemory alone.
+pub fn join_after(
+    alloc: Global,
+    first: FirstEpoch,
+    later: Vec<Summary>,
+) -> Result<LabelledSinks, NoMemory>
+    requires { (run : CutTrace) × AreOfRunAfter run (found_of first) (map summary_of later.items) }
+    ensures { (run : CutTrace) → AreOfRunAfter run (found_of first) (map summary_of later.items)
+        → IfOk result (λ sinks. sinks ≡ rows_as_written run.query run.trace) }
+{
+    let FirstEpoch {
+        labels,
+        places,
+        sinks,
+    } = first;
+    let (pieces, asked) = ask(alloc, later)?;
+    let cut = CutLabels::of_places(alloc, asked, &places)?;
+    drop(places);
+    label(alloc, labels, cut, pieces, sinks)
+}
+
+/// The pieces of these epochs, that of the last one first, and what the first of them asks for, all of it locations: each
+/// epoch asks the one before it for what its sinks and the next epoch's requests come from. It gives up with NoMemory alone.
 fn ask(alloc: Global, mut summaries: Vec<Summary>) -> Result<(Vec<Piece>, Asked), NoMemory>
-    requires { (run : CutTrace) × AreOfRun run (map summary_of summaries.items) }
-    ensures { IfOk result (λ r. ArePieces (map summary_of summaries.items) r.1 r.0.items) }
+    requires { AreOfStretch (map summary_of summaries.items) }
+    ensures pieces { IfOk result (λ r. ArePieces (map summary_of summaries.items) r.1 r.0.items) }
+    ensures located { IfOk result (λ r. All IsLocation r.1) }
 {
     let mut pieces = Vec::with_capacity(alloc, summaries.len())?;
     let mut asked = Asked::new(alloc);
@@ -47,26 +74,22 @@ fn ask(alloc: Global, mut summaries: Vec<Summary>) -> Result<(Vec<Piece>, Asked)
     Ok((pieces, asked))
 }
 
-/// The sinks of all epochs, each with its label in one log, of their pieces, that of the last one first. The first one
-/// asks for these locations, at which there was nothing at the run's start. It gives up with NoMemory alone.
+/// The sinks of a run, which is joined up to a cut: these sinks, with labels in one log, and those of the later epochs, of
+/// their pieces, that of the last one first. It gives up with NoMemory alone.
 fn label(
     alloc: Global,
+    mut labels: SourceLabels,
+    mut cut: CutLabels,
     mut pieces: Vec<Piece>,
-    asked: Asked,
-) -> Result<(SourceLabels, Vec<SinkLabel>), NoMemory>
-    ensures stand { IfOk result (λ r. SinksStand r.0 r.1.items) }
-    ensures rows { IfOk result (λ r. (run : CutTrace) (es : List EpochSummary)
-        → AreOfRun run es → ArePieces es asked pieces.items
-        → map (row_by r.0) r.1.items ≡ rows_as_written run.query run.trace) }
+    mut sinks: Vec<SinkLabel>,
+) -> Result<LabelledSinks, NoMemory>
+    requires cut { AllStand labels cut.labels.items }
+    requires sinks { SinksStand labels sinks.items }
+    ensures { (run : CutTrace) → IsUpTo run labels cut pieces.items sinks.items
+        → IfOk result (λ all. all ≡ rows_as_written run.query run.trace) }
 {
-    let mut labels = SourceLabels::new(alloc);
-    let mut sinks = Vec::new(alloc);
-    let mut cut = CutLabels {
-        asked,
-        labels: Vec::new(alloc),
-    };
     while let Some(piece) = pieces.pop() {
         cut = join_epoch(alloc, &mut labels, &cut, piece, &mut sinks)?;
     }
-    Ok((labels, sinks))
+    Ok(LabelledSinks::new(labels, sinks))
 }

@@ -10,7 +10,12 @@ use Rattle.summary_join.proofs.joining.ask.Goals as goal
 pub new-requires : goal.new-requires
 new-requires c =
     let l = c.loop-summary in
-    all_located c.requires.0 (map summary_of c.args.summaries.items) (map summary_of l.summaries.items) l.invariant.later l.asked l.pieces.items c.requires.1 l.invariant.split l.invariant.are
+    all_located (map summary_of c.args.summaries.items) (map summary_of l.summaries.items) l.invariant.later l.asked l.pieces.items c.requires l.invariant.split l.invariant.are
+
+pub returns-clause-located : goal.returns-clause-located
+returns-clause-located c =
+    let l = c.loop-summary in
+    all_located (map summary_of c.args.summaries.items) (map summary_of l.summaries.items) l.invariant.later l.asked l.pieces.items c.requires l.invariant.split l.invariant.are
 
 pub loop-summary-preserved : goal.loop-summary-preserved
 loop-summary-preserved c =
