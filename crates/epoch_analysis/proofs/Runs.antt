@@ -24,7 +24,7 @@ module _ (q : Query) (trace : List StepSeen) where
   found_summaries k s cs es a = absurd a
 
   -- so the steps of each epoch are in range
-  epochs_in_range : (k s : ℕ) (cs : List ℕ) (es : List Summary) → AreFound q trace (numbered k (epochs s cs)) es
+  pub epochs_in_range : (k s : ℕ) (cs : List ℕ) (es : List Summary) → AreFound q trace (numbered k (epochs s cs)) es
       → AllByRecursion (λ (e : Epoch). AreInRange trace e.first (e.past_last - e.first)) (epochs s cs)
   epochs_in_range k s [] es a = tt
   epochs_in_range k s (c ∷ cs) [] a = absurd a

@@ -1,13 +1,10 @@
 //! The rows of a run that is cut, from its epochs to what these come to.
 
-ghost use Rattle.std.specs.Prelude.{◌≡◌, map, IfOk, IfErr};
+ghost use Rattle.std.specs.Prelude.{◌≡◌, IfOk, IfErr};
 ghost use Rattle.log_model.specs.Logs.{steps};
 ghost use Rattle.no_memory.specs.Faults.{IsCausedBy};
-ghost use Rattle.report_model.specs.Rows.{rows_as_written};
 ghost use Rattle.epoch_model.specs.Cutting.{IsCutting};
 ghost use Rattle.replayer.specs.Checks.{IsChecked, IsMisfit};
-ghost use Rattle.epoch_summary.specs.Summaries.{summary_of};
-ghost use Rattle.summary_join.specs.Runs.{AreOfRun, CutTrace};
 ghost use Rattle.epoch_engine.specs.Collecting.{AreAtBeginnings, AreRowsOf, IsCollectedOf};
 
 use checked_epochs::check_and_analyse;
@@ -17,7 +14,7 @@ use epoch_analysis::analyse_all;
 use epoch_cut::Cuts;
 use epoch_engine::{Collected, Joining, Parallelism};
 use epoch_layout::{collect, lay_out};
-use epoch_summary::Summary;
+use labelled_sinks::LabelledSinks;
 use epoch_turns::work_in_groups;
 use no_memory::NoMemory;
 use outer_io::Gate;
@@ -28,7 +25,7 @@ use sink_collect::SinkSets;
 use std::alloc::Global;
 use std::sync::Wait;
 use std::thread::Threads;
-use summary_join::join;
+use summary_join::{join, join_after};
 
 /// The rows of a run that is cut, what crosses its inner cuts, and how many events moved, by a node for each epoch, in
 /// threads of `rt`. Each node enters the gate as it begins. It gives up with NoMemory alone.
@@ -88,7 +85,8 @@ pub fn rows<G: Gate, R: Threads + Wait + Sync>(
             let _points = query.points();
             let workers = parallelism.workers;
             let summaries = analyse_all(rt, alloc, gate, checkpoints, query, cuts, workers)?;
-            joined_rows(rt, alloc, summaries, workers)
+            let sinks = join(alloc, summaries)?;
+            rows_of_sinks(rt, alloc, &sinks, workers)
         }
     }
 }
@@ -115,24 +113,21 @@ pub fn checked_rows<G: Gate, R: Threads + Wait + Sync>(
     // The contract of this says that the points are at locations.
     let _points = query.points();
     let workers = parallelism.workers;
-    let (job, summaries) = check_and_analyse(rt, alloc, gate, program, log, query, cuts)?;
-    let rows = joined_rows(rt, alloc, summaries, workers)?;
+    let (job, first, later) = check_and_analyse(rt, alloc, gate, program, log, query, cuts)?;
+    let sinks = join_after(alloc, first, later)?;
+    let rows = rows_of_sinks(rt, alloc, &sinks, workers)?;
     Ok((job, rows))
 }
 
-/// The rows of a run of the summaries of all its epochs, which are joined by one log, and whose rows all workers make. It gives
-/// up with NoMemory alone.
-fn joined_rows<R: Threads + Sync>(
+/// The rows of sinks, in their order, which all workers make. It gives up with NoMemory alone.
+fn rows_of_sinks<R: Threads + Sync>(
     rt: &R,
     alloc: Global,
-    summaries: Vec<Summary>,
+    sinks: &LabelledSinks,
     workers: u32,
 ) -> Result<SinkSets, NoMemory>
-    requires of_run { (run : CutTrace) × AreOfRun run (map summary_of summaries.items) }
-    ensures { (run : CutTrace) → AreOfRun run (map summary_of summaries.items)
-        → IfOk result (λ sets. sets ≡ rows_as_written run.query run.trace) }
+    ensures { IfOk result (λ sets. sets ≡ sinks.now) }
 {
-    let sinks = join(alloc, summaries)?;
     let rows = sinks.rows_at_once(rt, alloc, workers)?;
     Ok(SinkSets::from_vec(rows))
 }
