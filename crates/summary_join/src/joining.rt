@@ -32,7 +32,8 @@ pub fn join(alloc: Global, summaries: Vec<Summary>) -> Result<LabelledSinks, NoM
 {
     let (pieces, asked) = ask(alloc, summaries)?;
     let cut = CutLabels::before_all(alloc, asked);
-    label(alloc, SourceLabels::new(alloc), cut, pieces, Vec::new(alloc))
+    let labels = SourceLabels::new(alloc);
+    label(alloc, labels, cut, pieces, Vec::new(alloc))
 }
 
 /// The same, of what the analysis of the first epoch found and of the summaries of the later ones. The one log begins as the

@@ -11,5 +11,5 @@ returns c = λ run r.
     let cut = c.before_all-cut in
     let pieces = c.in_ok-pieces.pieces.items in
     c.label.ensures run
-    (begun run es c.new.result cut.result pieces c.new-2.result.items r (subst (λ (ls : List Loc). ArePieces es ls pieces) (sym cut.ensures.asked) c.in_ok-pieces.ensures.pieces) cut.ensures.labels
-    c.new-2.ensures.items)
+    (begun run es c.new-labels.result cut.result pieces c.new.result.items r (subst (λ (ls : List Loc). ArePieces es ls pieces) (sym cut.ensures.asked) c.in_ok-pieces.ensures.pieces) cut.ensures.labels
+    c.new.ensures.items)
