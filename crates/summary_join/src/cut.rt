@@ -39,11 +39,11 @@ impl CutLabels {
         ensures asked { IfOk result (λ cut. cut.asked ≡ asked) }
         ensures labels { IfOk result (λ cut. cut.labels.items ≡ map (kept places.now) asked) }
     {
-        let mut labels = Vec::with_capacity(alloc, asked.count())?;
-        let locations = asked.locations();
-        for place in 0..locations.len() {
-            labels.push(places.get(locations[place]))?;
-        }
+        let labels = asked
+            .locations()
+            .iter()
+            .map(|loc| places.get(*loc))
+            .collect(alloc)?;
         Ok(CutLabels { asked, labels })
     }
 

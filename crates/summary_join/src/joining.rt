@@ -36,8 +36,8 @@ pub fn join(alloc: Global, summaries: Vec<Summary>) -> Result<LabelledSinks, NoM
     label(alloc, labels, cut, pieces, Vec::new(alloc))
 }
 
-/// The same, of what the analysis of the first epoch found and of the summaries of the later ones. The one log begins as the
-/// first epoch's, of which no node is looked at. It gives up with NoMemory alone.
+/// The sinks of a run, as [`join`] gives them, of what the analysis of its first epoch found and of the summaries of the later
+/// ones. The one log begins as that of the first epoch, of which no node is looked at. It gives up with NoMemory alone.
 pub fn join_after(
     alloc: Global,
     first: FirstEpoch,
