@@ -1,2 +1,3 @@
 mod DistinctRows
-mod Whole
+pub mod Whole
+mod Tracked

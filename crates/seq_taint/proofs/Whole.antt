@@ -1,5 +1,5 @@
 -- The sinks of a run that was tracked from its beginning to its end, and the run's rows.
-use Rattle.std.proofs.Common.{◌≡◌, ◌-◌, List, map, refl, ap, sym, ◌∙◌, arith}
+use Rattle.std.proofs.Common.{◌≡◌, ℕ, ◌-◌, List, map, refl, ap, sym, ◌∙◌, arith}
 use Rattle.std.proofs.lemmas.Simd.{map-map}
 use Rattle.flow_model.specs.declared.SourceByte.{SourceByte}
 use Rattle.flow_model.specs.declared.SinkPoint.{SinkPoint}
@@ -28,14 +28,21 @@ origins_are_course policy trace = record {
   turns = λ t step from at l. sym (origins_later policy trace t step l at);
 }
 
--- sinks that have their origins come to the rows of the run
+-- sinks of a run's first n steps that have their origins come to the rows of these steps
+pub rows_of_steps : (q : Query) (trace : List StepSeen) (n : ℕ) (labels : SourceLabels) (sinks : List SinkLabel)
+    → map (labelled label_words labels) sinks ≡ map (meant (origins (policy_of q) trace)) (sinks_of_epoch q trace 0 n)
+    → map (row_by labels) sinks ≡ map (row q trace) (sinks_of_epoch q trace 0 n)
+rows_of_steps q trace n labels sinks found =
+    let as_row : SinkPoint × List SourceByte → Row = λ p. record { sink = p.0; sources = p.1 } in
+    sym (map-map as_row (labelled label_words labels) sinks) ∙ ap (map as_row) found
+    ∙ map-map as_row (meant (origins (policy_of q) trace)) (sinks_of_epoch q trace 0 n)
+
+-- those of all its steps come to the rows of the run
 pub rows_of_run : (q : Query) (job : Job) (labels : SourceLabels) (sinks : List SinkLabel)
     → map (labelled label_words labels) sinks ≡ map (meant (origins (policy_of q) (trace_of job))) (sinks_of_epoch q (trace_of job) 0 (steps job.log - 0))
     → map (row_by labels) sinks ≡ rows_as_written q (trace_of job)
 rows_of_run q job labels sinks found =
     let trace = trace_of job in
-    let as_row : SinkPoint × List SourceByte → Row = λ p. record { sink = p.0; sources = p.1 } in
     let all : steps job.log - 0 ≡ steps job.log = omega arith in
-    sym (map-map as_row (labelled label_words labels) sinks) ∙ ap (map as_row) found
-    ∙ map-map as_row (meant (origins (policy_of q) trace)) (sinks_of_epoch q trace 0 (steps job.log - 0))
+    rows_of_steps q trace (steps job.log - 0) labels sinks found
     ∙ ap (map (row q trace)) (ap (sinks_of_epoch q trace 0) (all ∙ sym (length-steps_from (steps job.log) (start job.start job.log))) ∙ sym (sinks-all q trace))

@@ -2,11 +2,14 @@
 //! locations are labelled with source bytes alone: what stood anywhere at the run's start came from none.
 //!
 //! Crates above rest on this: `sequential` is the rows in the order of the run, each output byte and each point once.
-//! `check_whole` finds the sinks of a run, each with a label, while its log is checked.
-//! `rows_are_distinct` is a law of all runs. What watches a run is told of its steps by a loop that is compiled for this crate alone:
-//! so the loop has the machine and the labels in its midst.
+//! `check_whole` finds the sinks of a run, each with a label, while its log is checked. `check_beginning` gives the label of each
+//! location at a time of the run, and the sinks up to there, each with a label, while the steps before that time are checked;
+//! `check_all` gives them at the run's end: for each job whose run stands where the check does. `rows_are_distinct` is a law of all
+//! runs. What watches a run is told of its steps by a loop that is compiled for this crate alone: so the loop has the machine and
+//! the labels in its midst.
 #![tactic(auto)]
 
+mod beginning;
 mod checking;
 mod distinct;
 mod labelled;
@@ -18,6 +21,7 @@ ghost use Rattle.sink_collect.specs.Distinct.{AreDistinct};
 ghost use Rattle.source_labels.specs.Words.{label_words};
 ghost use Rattle.taint_tracking.specs.Watched.{HasBegun};
 
+pub use beginning::{check_all, check_beginning};
 pub use checking::check_whole;
 pub use distinct::rows_are_distinct;
 use labelled::sinks_of;
