@@ -1,5 +1,5 @@
 -- The next epoch, begun where a check came to.
-use Rattle.std.proofs.Common.{◌≡◌, ℕ, ◌≤◌, List, [], ◌∷◌, ◌++◌, reverse, sym, ap, ◌∙◌, subst, arith}
+use Rattle.std.proofs.Common.{◌≡◌, ◌≤◌, List, [], ◌∷◌, ◌++◌, reverse, sym, ap, ◌∙◌, subst, arith}
 use Rattle.log_model.specs.Logs.{Log, end_at}
 use Rattle.epoch_cut.specs.Numbered.{NumberedEpoch}
 use Rattle.replay_run.specs.Counters.{CountRecords}
@@ -10,7 +10,7 @@ use Rattle.checked_epochs.specs.declared.ahead.Beginning.{Beginning}
 use Rattle.checked_epochs.specs.declared.ahead.Ahead.{Ahead}
 use Rattle.checked_epochs.specs.Beginnings.{IsOfSome, HasComeTo, Leads}
 use Rattle.checked_epochs.specs.Aheads.{Follow, IsAhead, HasBegunInner, HasBegunLast, left_of, stand_of}
-use Rattle.checked_epochs.proofs.Following.{Next, follow_late, follow_next, reverse_pop}
+use Rattle.checked_epochs.proofs.Following.{follow_late, follow_next, reverse_pop}
 use Rattle.checked_epochs.proofs.Leading.{same_log, still_of_some}
 
 module _ (log : Log) (old : Ahead) (a : IsAhead log old) where

@@ -1,5 +1,5 @@
 -- Runs that lead to later ones of the same jobs.
-use Rattle.std.proofs.Common.{◌≡◌, sym, ◌∙◌}
+use Rattle.std.proofs.Common.{◌≡◌, ℕ, sym, ◌∙◌}
 use Rattle.no_memory.specs.declared.Fault.{Fault}
 use Rattle.no_memory.specs.declared.Fault.TheVariants.{At, NoMemory}
 use Rattle.no_memory.specs.Faults.{IsCausedBy}
@@ -11,7 +11,9 @@ use Rattle.replayer.specs.Watching.{Seen}
 use Rattle.epoch_cut.specs.Numbered.{NumberedEpoch}
 use Rattle.epoch_summary.specs.declared.summary.Summary.{Summary}
 use Rattle.local_taint.specs.Ahead.{IsFoundAhead}
+use Rattle.summary_join.specs.First.{FirstFound}
 use Rattle.checked_epochs.specs.Beginnings.{Leads, IsOfSome}
+use Rattle.checked_epochs.specs.Found.{IsFirstAhead}
 
 pub leads_refl : (run : RunAt) → Leads run run
 leads_refl run = record { stands = λ job s. s; agrees = λ job a. a }
@@ -42,3 +44,6 @@ caused_before before after (NoMemory n) leads h = tt
 
 pub found_before : (q : Query) (before after : RunAt) (epoch : NumberedEpoch) (e : Summary) → Leads before after → IsFoundAhead q after epoch e → IsFoundAhead q before epoch e
 found_before q before after epoch e leads f = record { number = f.number; summary = λ job s. f.summary job (leads.stands job s); in_range = λ job s. f.in_range job (leads.stands job s) }
+
+pub first_before : (q : Query) (before after : RunAt) (past_first : ℕ) (first : FirstFound) → Leads before after → IsFirstAhead q after past_first first → IsFirstAhead q before past_first first
+first_before q before after past_first first leads f = record { found = λ job s. f.found job (leads.stands job s); in_range = λ job s. f.in_range job (leads.stands job s) }

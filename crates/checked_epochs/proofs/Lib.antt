@@ -4,3 +4,4 @@ mod Beginning
 mod Resting
 mod Cutting
 mod Opening
+mod FirstEpochs

@@ -1,5 +1,5 @@
 -- What is found of the epochs that are left.
-use Rattle.std.proofs.Common.{◌≡◌, ℕ, suc, ◌+◌, ◌<◌, List, [], ◌∷◌, ◌++◌, length, reverse, sym, ap, ◌∙◌, subst, arith}
+use Rattle.std.proofs.Common.{◌≡◌, ◌+◌, List, [], ◌∷◌, ◌++◌, length, reverse, sym, ap, ◌∙◌, subst, arith}
 use Rattle.std.specs.List.{AllZip}
 use Rattle.std.proofs.lemmas.List.{length-reverse}
 use Rattle.log_model.specs.Logs.{Log}
@@ -20,8 +20,15 @@ pub fewer_left : (log : Log) (old : Ahead) (b : Beginning) (new : Ahead) → Has
 fewer_left log old b new h =
     omega (arith, ap (λ (es : List NumberedEpoch). length es) h.epochs, length-reverse new.left.items, length-reverse old.left.items)
 
+-- the epoch that is begun is the first of those that were left
+pub inner_epochs : (log : Log) (old : Ahead) (b : Beginning) (new : Ahead) → HasBegunInner log old b new → b.ticket ∷ left_of new ++ new.last ∷ [] ≡ left_of old ++ old.last ∷ []
+inner_epochs log old b new h = ap (λ es. es ++ new.last ∷ []) h.epochs ∙ ap (λ l. left_of old ++ l ∷ []) h.last
+
+pub last_epochs : (log : Log) (old : Ahead) (b : Beginning) → HasBegunLast log old b → b.ticket ∷ [] ≡ left_of old ++ old.last ∷ []
+last_epochs log old b h = ap (λ l. l ∷ []) h.is_last ∙ ap (λ es. es ++ old.last ∷ []) (sym h.none)
+
 module _ (q : Query) (log : Log) where
-  all_before : (before after : RunAt) (ts : List NumberedEpoch) (es : List Summary) → Leads before after → AllZip (IsFoundAhead q after) ts es
+  pub all_before : (before after : RunAt) (ts : List NumberedEpoch) (es : List Summary) → Leads before after → AllZip (IsFoundAhead q after) ts es
       → AllZip (IsFoundAhead q before) ts es
   all_before before after [] [] leads z = tt
   all_before before after (t ∷ ts) (e ∷ es) leads z = (found_before q before after t e leads z.0, all_before before after ts es leads z.1)
@@ -34,17 +41,14 @@ module _ (q : Query) (log : Log) where
   inner_found old b new e rest all h one z is_all =
       let first = found_before q (stand_of log old) (run_of log b) b.ticket e h.led one in
       let others = all_before (stand_of log old) (stand_of log new) (left_of new ++ new.last ∷ []) (reverse rest) h.leads z in
-      let epochs : b.ticket ∷ left_of new ++ new.last ∷ [] ≡ left_of old ++ old.last ∷ [] =
-      ap (λ es. es ++ new.last ∷ []) h.epochs ∙ ap (λ l. left_of old ++ l ∷ []) h.last in
       let found : AllZip (IsFoundAhead q (stand_of log old)) (left_of old ++ old.last ∷ []) (e ∷ reverse rest) =
-      subst (λ (ts : List NumberedEpoch). AllZip (IsFoundAhead q (stand_of log old)) ts (e ∷ reverse rest)) epochs (first, others) in
+      subst (λ (ts : List NumberedEpoch). AllZip (IsFoundAhead q (stand_of log old)) ts (e ∷ reverse rest)) (inner_epochs log old b new h) (first, others) in
       subst (AllZip (IsFoundAhead q (stand_of log old)) (left_of old ++ old.last ∷ [])) (sym (reverse_pop all rest e is_all)) found
 
   pub last_found : (old : Ahead) (b : Beginning) (e : Summary) (all : List Summary) → HasBegunLast log old b → IsFoundOf q log b e → all ≡ e ∷ []
       → AllZip (IsFoundAhead q (stand_of log old)) (left_of old ++ old.last ∷ []) (reverse all)
   last_found old b e all h one is_all =
       let first = found_before q (stand_of log old) (run_of log b) b.ticket e h.led one in
-      let epochs : b.ticket ∷ [] ≡ left_of old ++ old.last ∷ [] = ap (λ l. l ∷ []) h.is_last ∙ ap (λ es. es ++ old.last ∷ []) (sym h.none) in
       let found : AllZip (IsFoundAhead q (stand_of log old)) (left_of old ++ old.last ∷ []) (e ∷ []) =
-      subst (λ (ts : List NumberedEpoch). AllZip (IsFoundAhead q (stand_of log old)) ts (e ∷ [])) epochs (first, tt) in
+      subst (λ (ts : List NumberedEpoch). AllZip (IsFoundAhead q (stand_of log old)) ts (e ∷ [])) (last_epochs log old b h) (first, tt) in
       subst (AllZip (IsFoundAhead q (stand_of log old)) (left_of old ++ old.last ∷ [])) (ap reverse (sym is_all)) found

@@ -3,18 +3,37 @@
 ghost use Rattle.std.specs.Prelude.{◌≡◌, None, IfOk, OnOk, IfErr};
 ghost use Rattle.no_memory.specs.Faults.{IsCausedBy};
 ghost use Rattle.replay_model.specs.Comparison.{divergence};
+ghost use Rattle.replay_run.specs.Counters.{CountRecords};
 ghost use Rattle.replayer.specs.InParts.{AgreesSoFar, Differs};
 ghost use Rattle.replayer.specs.Jobs.{Job as JobAt};
 ghost use Rattle.checked_epochs.specs.Beginnings.{IsBegun, IsLastBegun, IsFoundOf, run_of};
 
 use crate::ahead::Beginning;
+use epoch_cut::EpochTicket;
 use epoch_summary::Summary;
-use no_memory::Fault;
+use no_memory::{Fault, NoMemory};
 use outer_io::Gate;
 use query_lang::Query;
 use replay_log::Log;
 use replayer::{Checker, Divergence};
 use std::alloc::Global;
+
+/// Enters the gate for an epoch whose analysis begins. It gives the epoch, and the check that goes on from where the epoch begins,
+/// or gives up with NoMemory alone.
+pub fn enter<'a, G: Gate>(
+    alloc: Global,
+    gate: &G,
+    log: &'a Log,
+    beginning: Beginning,
+) -> Result<(EpochTicket, Checker<'a>), NoMemory>
+    requires { CountRecords log.now beginning.state.counters }
+    ensures ticket { IfOk result (λ r. r.0 ≡ beginning.ticket) }
+    ensures run { IfOk result (λ r. r.1 ≡ run_of log.now beginning) }
+{
+    let Beginning { ticket, state } = beginning;
+    gate.enter(ticket.number());
+    Ok((ticket, Checker::resume(alloc, log, state)?))
+}
 
 /// The summary of an epoch before the last, which enters the gate as its analysis begins. It says where the log differs from the
 /// run; else it gives up with NoMemory alone.
@@ -29,9 +48,7 @@ pub fn analyse_ahead<G: Gate>(
     ensures found { IfOk result (IsFoundOf query.now log.now beginning) }
     ensures fault { IfErr result (IsCausedBy (Differs (run_of log.now beginning))) }
 {
-    let Beginning { ticket, state } = beginning;
-    gate.enter(ticket.number());
-    let checker = Checker::resume(alloc, log, state)?;
+    let (ticket, checker) = enter(alloc, gate, log, beginning)?;
     local_taint::analyse_ahead(alloc, ticket, checker, query)
 }
 
@@ -50,8 +67,6 @@ pub fn analyse_last<G: Gate>(
         → AgreesSoFar job (run_of log.now beginning) → divergence job.start job.log ≡ None) }
     ensures fault { IfErr result (IsCausedBy (Differs (run_of log.now beginning))) }
 {
-    let Beginning { ticket, state } = beginning;
-    gate.enter(ticket.number());
-    let checker = Checker::resume(alloc, log, state)?;
+    let (ticket, checker) = enter(alloc, gate, log, beginning)?;
     local_taint::analyse_last(alloc, ticket, checker, query)
 }
