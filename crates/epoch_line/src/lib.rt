@@ -9,4 +9,4 @@
 
 mod working;
 
-pub use working::{checked_rows, rows, work};
+pub use working::{checked_rows, rows, texts_at_once, work};

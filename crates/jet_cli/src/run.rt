@@ -10,6 +10,7 @@ ghost use Rattle.jet_commands.specs.Targets.{IfFile, OpensAll, OpensFirst, Keeps
 ghost use Rattle.jet_commands.specs.Plans.{command_in, target_in, files_of, IfUntimedIn};
 ghost use Rattle.outer_io.specs.Outside.{change};
 ghost use Rattle.epoch_engine.specs.Collecting.{AreAtBeginnings, AreRowsOf, IsCollectedOf};
+ghost use Rattle.epoch_engine.specs.Texts.{AreTextsOf};
 ghost use Rattle.command_parts.specs.Saying.{Says};
 ghost use Rattle.jet_commands.specs.Ending.{IsUnwritten};
 ghost use Rattle.jet_cli.specs.Statuses.{IsStatus, IsDone, IsDoneInPart, IsRefused, IsDecided, IsComplete};
@@ -19,14 +20,14 @@ use command_parts::conclude;
 use elf_image::Program;
 use epoch_cut::Cuts;
 use epoch_engine::{ClosureEngine, Collected, Parallelism};
-use epoch_line::{checked_rows, rows, work};
+use epoch_line::{checked_rows, rows, texts_at_once, work};
 use jet_commands::obey;
 use no_memory::NoMemory;
 use outer_io::{Clock, Gate, Sink, Store};
 use query_lang::Query;
 use replay_log::Log;
 use replayer::{CheckFault, Job};
-use sink_collect::SinkSets;
+use sink_collect::{SinkSet, SinkSets};
 use std::sync::Wait;
 use std::thread::Threads;
 
@@ -94,6 +95,9 @@ pub fn jet<R: Threads + Wait + Sync + AllocGlobal, S: Store, O: Sink, E: Sink, K
             requires { AreAtBeginnings cuts checkpoints.now }
             ensures { IfOk result (IsCollectedOf query.entry.now checkpoints.entry.now.job cuts) }
         { work(rt, alloc, gate, checkpoints, query, cuts, parallelism) },
+        texts: |rows: &[SinkSet], workers: u32| -> Result<Vec<Vec<u8>>, NoMemory>
+            ensures { IfOk result (λ texts. AreTextsOf rows.entry.now texts.items) }
+        { texts_at_once(rt, alloc, rows, workers) },
     };
     let outcome = obey(&line, alloc, words, store, out, clock);
     conclude(err, outcome)

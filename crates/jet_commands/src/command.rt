@@ -10,7 +10,7 @@ ghost use Rattle.jet_commands.specs.Obeying.{Obeys};
 
 use crate::answer::answer;
 use crate::delivery::deliver;
-use crate::resources::Resources;
+use crate::resources::{Resources, workers_of};
 use epoch_engine::Engine;
 use jet_refusal::Refusal;
 use jet_words::{Command, read_words};
@@ -38,7 +38,8 @@ fn carry_out<E: Engine, S: Store, O: Sink, K: Clock>(
 {
     let buffer = Buffer::new(resources.alloc, PIECE)?;
     let given = answer(resources, store, clock, command)?;
-    match deliver(store, out, &given, buffer) {
+    let workers = workers_of(command);
+    match deliver(resources.engine, store, out, &given, buffer, workers) {
         Ok(()) => Ok(()),
         Err(WriteFault) => Err(Refusal::WriteFault),
     }
@@ -46,7 +47,7 @@ fn carry_out<E: Engine, S: Store, O: Sink, K: Clock>(
 
 /// Does what the words stand for, of which the first is the program's name. It gives up with `Usage`, where they stand
 /// for no command; with what the files are refused for, `ReadFault` or `WriteFault`, where the store or the output fails,
-/// or it is out of memory. Epochs are analysed by the engine.
+/// or it is out of memory. Epochs are analysed by the engine, which also makes the lines of reports.
 pub fn obey<E: Engine, S: Store, O: Sink, K: Clock>(
     engine: &E,
     alloc: Global,

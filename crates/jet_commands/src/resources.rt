@@ -1,12 +1,12 @@
 //! What the commands that analyse epochs work with.
 
 ghost use Rattle.std.specs.Prelude.{◌≡◌};
-ghost use Rattle.jet_words.specs.Commands.{IsPipeline};
-ghost use Rattle.jet_commands.specs.Resources.{link_capacity, joining_by};
+ghost use Rattle.jet_words.specs.Commands.{IsPipeline, plain_command};
+ghost use Rattle.jet_commands.specs.Resources.{link_capacity, joining_by, workers_by};
 
 use epoch_engine::{Joining, Parallelism};
 use epoch_link::Capacity;
-use jet_words::Pipeline;
+use jet_words::{Command, Pipeline};
 use std::alloc::Global;
 
 /// How many messages a link holds, where the words don't tell it.
@@ -42,5 +42,18 @@ pub fn parallelism_of(pipeline: Pipeline) -> Parallelism
         workers: pipeline.workers,
         joining: joining_of(pipeline),
         link: Capacity::of(capacity),
+    }
+}
+
+/// How many workers write the text of a command: those that analyse epochs, or one, where it analyses none.
+pub fn workers_of(command: &Command) -> u32
+    ensures { result ≡ workers_by (plain_command command.now) }
+{
+    match command {
+        Command::Analysis { pipeline, .. } => pipeline.workers,
+        Command::Page { pipeline, .. } => pipeline.workers,
+        Command::Queries { pipeline, .. } => pipeline.workers,
+        Command::Bench { pipeline, .. } => pipeline.workers,
+        _ => 1,
     }
 }

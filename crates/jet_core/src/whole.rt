@@ -11,13 +11,14 @@ ghost use Rattle.replayer.specs.Jobs.{trace_of};
 ghost use Rattle.sink_collect.specs.Pairs.{capped};
 ghost use Rattle.run_query.specs.Crossings.{crossed};
 ghost use Rattle.epoch_engine.specs.Collecting.{AreAtBeginnings, AreRowsOf, IsCollectedOf};
+ghost use Rattle.epoch_engine.specs.Texts.{AreTextsOf};
 
 use crate::analysing::rows_at_once;
 use checkpoints::Checkpoints;
 use elf_image::Program;
 use epoch_cut::Cuts;
 use epoch_engine::{ClosureEngine, Collected, Parallelism};
-use epoch_line::{checked_rows, rows, work};
+use epoch_line::{checked_rows, rows, texts_at_once, work};
 use epoch_link::Capacity;
 use no_memory::NoMemory;
 use outer_io::Gate;
@@ -26,7 +27,7 @@ use replay_log::Log;
 use replayer::{CheckFault, Job};
 use run_query::{Crossed, QueryAnswer, answer_with};
 use seq_taint::rows_are_distinct;
-use sink_collect::{Report, SinkSets, gather};
+use sink_collect::{Report, SinkSet, SinkSets, gather};
 use std::alloc::Global;
 use std::sync::Wait;
 use std::thread::Threads;
@@ -71,6 +72,9 @@ pub fn query<G: Gate, R: Threads + Wait + Sync>(
             requires { AreAtBeginnings cuts checkpoints.now }
             ensures { IfOk result (IsCollectedOf query.entry.now checkpoints.entry.now.job cuts) }
         { work(rt, alloc, gate, checkpoints, query, cuts, parallelism) },
+        texts: |rows: &[SinkSet], workers: u32| -> Result<Vec<Vec<u8>>, NoMemory>
+            ensures { IfOk result (λ texts. AreTextsOf rows.entry.now texts.items) }
+        { texts_at_once(rt, alloc, rows, workers) },
     };
     let QueryAnswer {
         report,

@@ -6,6 +6,7 @@ ghost use Rattle.no_memory.specs.Faults.{IsCausedBy};
 ghost use Rattle.epoch_model.specs.Cutting.{IsCutting};
 ghost use Rattle.replayer.specs.Checks.{IsChecked, IsMisfit};
 ghost use Rattle.epoch_engine.specs.Collecting.{AreAtBeginnings, AreRowsOf, IsCollectedOf};
+ghost use Rattle.epoch_engine.specs.Texts.{AreTextsOf};
 
 use super::{COPIED, COPY, assert_text, query_of, sequential_report};
 use crate::guests::{COPY_FOUR, Recorded, Runtime, job_of, unchecked};
@@ -14,7 +15,7 @@ use elf_image::Program;
 use epoch_cut::laws::cut_times_are_cutting;
 use epoch_cut::{Cuts, cuts};
 use epoch_engine::{ClosureEngine, Collected, Joining, Parallelism};
-use epoch_line::{checked_rows, rows, work};
+use epoch_line::{checked_rows, rows, texts_at_once, work};
 use epoch_link::Capacity;
 use memory_outside::{CountingGate, MeetingGate};
 use no_memory::NoMemory;
@@ -23,7 +24,7 @@ use query_lang::Query;
 use replay_log::Log;
 use replayer::{CheckFault, Job, steps_of};
 use run_query::{Part, check_and_query};
-use sink_collect::{Report, SinkSets, text};
+use sink_collect::{Report, SinkSet, SinkSets, text};
 
 /// How many workers analyse the epochs, and how these are joined.
 #[derive(Clone, Copy)]
@@ -71,6 +72,9 @@ fn checked_report<G: Gate>(
             requires { AreAtBeginnings cuts checkpoints.now }
             ensures { IfOk result (IsCollectedOf query.entry.now checkpoints.entry.now.job cuts) }
         { work(rt, alloc, gate, checkpoints, query, cuts, parallelism) },
+        texts: |rows: &[SinkSet], workers: u32| -> Result<Vec<Vec<u8>>, NoMemory>
+            ensures { IfOk result (λ texts. AreTextsOf rows.entry.now texts.items) }
+        { texts_at_once(rt, alloc, rows, workers) },
     };
     let parallelism = Parallelism {
         workers,

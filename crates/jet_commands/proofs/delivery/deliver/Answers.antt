@@ -6,4 +6,4 @@ pub returns-in-Told : goal.returns-in-Told
 returns-in-Told g c =
     rw c.in-Told.is
     (told (text_of c.in-Told.answer) (g.S.Store.shown c.args.store.now) (g.O.Sink.shown c.args.out.now) (g.O.Sink.shown c.write_in_pieces.new.sink) _ c.write_in_pieces.result
-    c.write_in_pieces.ensures.cause c.write_in_pieces.ensures.ok c.write_in_pieces.ensures.err)
+    c.write_in_pieces.ensures.cause (rw c.new.ensures at c.write_in_pieces.ensures.ok) (rw c.new.ensures at c.write_in_pieces.ensures.err))

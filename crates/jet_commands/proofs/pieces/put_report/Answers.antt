@@ -14,4 +14,4 @@ returns-in_err-put_numbered g c =
 pub returns : goal.returns
 returns g c =
     let head : List ℕ = codes "query " ++ decimal c.args.number ++ 0x0a ∷ [] in
-    puts-then g.P.Pieces.putting g.met.P.Pieces.laws c.args.place.now c.put_numbered.new.place c.put_text.new.place head (report_text c.args.report.now) c.put_text.result c.in_ok-put_numbered.ensures c.put_text.ensures
+    puts-then g.P.Pieces.putting g.met.P.Pieces.laws c.args.place.now c.put_numbered.new.place c.put_text_at_once.new.place head (report_text c.args.report.now) c.put_text_at_once.result c.in_ok-put_numbered.ensures c.put_text_at_once.ensures
