@@ -4,9 +4,9 @@
 //! whether its epochs are joined by links or by one log. `work` gives also what was asked at each inner cut, and the number
 //! of events that moved: it lays the run's nodes out, one for each epoch, joined by links, gives them their turns, and
 //! collects what they come to. The nodes are laid out and collected by `epoch_layout`, and `epoch_turns` gives them their
-//! turns. `epoch_analysis` has the analyses without nodes, and `summary_join` joins what they found in one log.
+//! turns. `epoch_analysis` and `checked_epochs` have the analyses without nodes, and `summary_join` joins what they found in one log.
 #![tactic(auto)]
 
 mod working;
 
-pub use working::{checked_rows, rows, texts_at_once, work};
+pub use working::{checked_rows, rows, work};

@@ -6,7 +6,6 @@ ghost use Rattle.no_memory.specs.Faults.{IsCausedBy};
 ghost use Rattle.epoch_model.specs.Cutting.{IsCutting};
 ghost use Rattle.replayer.specs.Checks.{IsChecked, IsMisfit};
 ghost use Rattle.epoch_engine.specs.Collecting.{AreAtBeginnings, AreRowsOf, IsCollectedOf};
-ghost use Rattle.epoch_engine.specs.Texts.{AreTextsOf};
 
 use checked_epochs::check_and_analyse;
 use checkpoints::Checkpoints;
@@ -15,15 +14,15 @@ use epoch_analysis::analyse_all;
 use epoch_cut::Cuts;
 use epoch_engine::{Collected, Joining, Parallelism};
 use epoch_layout::{collect, lay_out};
-use labelled_sinks::LabelledSinks;
 use epoch_turns::work_in_groups;
+use labelled_sinks::LabelledSinks;
 use no_memory::NoMemory;
 use outer_io::Gate;
 use query_lang::Query;
 use replay_log::Log;
 use replayer::{CheckFault, Job};
-use sink_collect::{SinkSet, SinkSets};
-use std::alloc::{AllocError, Global};
+use sink_collect::SinkSets;
+use std::alloc::Global;
 use std::sync::Wait;
 use std::thread::Threads;
 use summary_join::{join, join_after};
@@ -131,20 +130,4 @@ fn rows_of_sinks<R: Threads + Sync>(
 {
     let rows = sinks.rows_at_once(rt, alloc, workers)?;
     Ok(SinkSets::from_vec(rows))
-}
-
-/// The texts of rows, each of some of them, in their order. It stands in for `sink_collect::texts_at_once`, and gives up.
-pub fn texts_at_once<R: Threads + Sync>(
-    rt: &R,
-    alloc: Global,
-    rows: &[SinkSet],
-    workers: u32,
-) -> Result<Vec<Vec<u8>>, NoMemory>
-    ensures { IfOk result (λ texts. AreTextsOf rows.now texts.items) }
-{
-    let _ = rt;
-    let _ = alloc;
-    let _ = rows;
-    let _ = workers;
-    Err(NoMemory::from(AllocError))
 }

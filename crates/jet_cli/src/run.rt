@@ -20,14 +20,14 @@ use command_parts::conclude;
 use elf_image::Program;
 use epoch_cut::Cuts;
 use epoch_engine::{ClosureEngine, Collected, Parallelism};
-use epoch_line::{checked_rows, rows, texts_at_once, work};
+use epoch_line::{checked_rows, rows, work};
 use jet_commands::obey;
 use no_memory::NoMemory;
 use outer_io::{Clock, Gate, Sink, Store};
 use query_lang::Query;
 use replay_log::Log;
 use replayer::{CheckFault, Job};
-use sink_collect::{SinkSet, SinkSets};
+use sink_collect::{SinkSet, SinkSets, texts_at_once};
 use std::sync::Wait;
 use std::thread::Threads;
 

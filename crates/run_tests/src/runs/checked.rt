@@ -15,7 +15,7 @@ use elf_image::Program;
 use epoch_cut::laws::cut_times_are_cutting;
 use epoch_cut::{Cuts, cuts};
 use epoch_engine::{ClosureEngine, Collected, Joining, Parallelism};
-use epoch_line::{checked_rows, rows, texts_at_once, work};
+use epoch_line::{checked_rows, rows, work};
 use epoch_link::Capacity;
 use memory_outside::{CountingGate, MeetingGate};
 use no_memory::NoMemory;
@@ -24,7 +24,7 @@ use query_lang::Query;
 use replay_log::Log;
 use replayer::{CheckFault, Job, steps_of};
 use run_query::{Part, check_and_query};
-use sink_collect::{Report, SinkSet, SinkSets, text};
+use sink_collect::{Report, SinkSet, SinkSets, text, texts_at_once};
 
 /// How many workers analyse the epochs, and how these are joined.
 #[derive(Clone, Copy)]
