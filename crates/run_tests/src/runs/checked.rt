@@ -24,7 +24,8 @@ use query_lang::Query;
 use replay_log::Log;
 use replayer::{CheckFault, Job, steps_of};
 use run_query::{Part, check_and_query};
-use sink_collect::{Report, SinkSet, SinkSets, text, texts_at_once};
+use seq_taint::rows_are_distinct;
+use sink_collect::{Report, SinkSet, SinkSets, gather, text, texts_at_once};
 
 /// How many workers analyse the epochs, and how these are joined.
 #[derive(Clone, Copy)]
@@ -151,5 +152,27 @@ fn two_epochs_that_one_log_joins_are_at_work_at_once(rt: HostRuntime) {
     };
     let found = checked_report(&rt, &gate, &wanted, 6, way);
     assert!(rt; gate.is_met());
+    assert_text(&rt, &found, COPIED);
+}
+
+/// The only epoch of a run is analysed by the check, and enters the gate once.
+#[test]
+fn the_only_epoch_is_analysed_while_it_is_checked(rt: HostRuntime) {
+    let alloc = rt.alloc();
+    let wanted = query_of(&rt, COPY);
+    let gate = CountingGate::new(alloc, 1).expect(&rt, "memory");
+    let Recorded { program, log } = unchecked(&rt, &COPY_FOUR);
+    cut_times_are_cutting();
+    let cuts = cuts(steps_of(&log), 12).expect(&rt, "one epoch");
+    let parallelism = Parallelism {
+        workers: 1,
+        joining: Joining::ByOneLog,
+        link: Capacity::of(1),
+    };
+    let checked = checked_rows(&rt, alloc, &gate, program, log, &wanted, cuts, parallelism);
+    let (job, rows) = checked.expect(&rt, "a log that fits");
+    assert!(rt; gate.is_entered_by_each_once());
+    rows_are_distinct(&job, &wanted);
+    let found = gather(alloc, rows.into_vec()).expect(&rt, "memory");
     assert_text(&rt, &found, COPIED);
 }
