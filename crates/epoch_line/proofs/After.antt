@@ -1,7 +1,6 @@
 -- What is found of all epochs of a run, of the first with source bytes, is of the run.
 use Rattle.std.proofs.Common.{◌≡◌, ℕ, ◌-◌, List, ◌∷◌, map, length, sym, subst, arith}
 use Rattle.std.specs.List.{AllByRecursion}
-use Rattle.flow_model.specs.declared.StepSeen.{StepSeen}
 use Rattle.log_model.specs.Logs.{steps}
 use Rattle.report_model.specs.Query.{Query, AreLocated}
 use Rattle.replayer.specs.Jobs.{Job, trace_of}

@@ -86,7 +86,7 @@ pub fn rows<G: Gate, R: Threads + Wait + Sync>(
             let workers = parallelism.workers;
             let summaries = analyse_all(rt, alloc, gate, checkpoints, query, cuts, workers)?;
             let sinks = join(alloc, summaries)?;
-            rows_of_sinks(rt, alloc, &sinks, workers)
+            rows_of_sinks(rt, alloc, sinks, workers)
         }
     }
 }
@@ -115,18 +115,18 @@ pub fn checked_rows<G: Gate, R: Threads + Wait + Sync>(
     let workers = parallelism.workers;
     let (job, first, later) = check_and_analyse(rt, alloc, gate, program, log, query, cuts)?;
     let sinks = join_after(alloc, first, later)?;
-    let rows = rows_of_sinks(rt, alloc, &sinks, workers)?;
+    let rows = rows_of_sinks(rt, alloc, sinks, workers)?;
     Ok((job, rows))
 }
 
-/// The rows of sinks, in their order, which all workers make. It gives up with NoMemory alone.
+/// The rows of sinks, in their order, which all workers make. The sinks are let go. It gives up with NoMemory alone.
 fn rows_of_sinks<R: Threads + Sync>(
     rt: &R,
     alloc: Global,
-    sinks: &LabelledSinks,
+    sinks: LabelledSinks,
     workers: u32,
 ) -> Result<SinkSets, NoMemory>
-    ensures { IfOk result (λ sets. sets ≡ sinks.now) }
+    ensures { IfOk result (λ sets. sets ≡ sinks) }
 {
     let rows = sinks.rows_at_once(rt, alloc, workers)?;
     Ok(SinkSets::from_vec(rows))
