@@ -1,8 +1,8 @@
 use Rattle.std.proofs.Common.{◌+◌, ◌*◌}
 use Rattle.sink_collect.proofs.at_once.+parts.Given as goal
 
-abbrev pub decreases-texts_of_parts : goal.decreases-texts_of_parts
-decreases-texts_of_parts g l = 2 * l.workers
+abbrev pub decreases-texts_at_once : goal.decreases-texts_at_once
+decreases-texts_at_once g l = 2 * l.workers
 
 abbrev pub decreases-front : goal.decreases-front
 decreases-front g l = 2 * l.some + 1
