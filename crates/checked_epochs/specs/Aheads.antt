@@ -1,10 +1,14 @@
 -- How far a check has come ahead of the analyses of the epochs.
-use Rattle.std.specs.Prelude.{◌≡◌, ℕ, ◌≤◌, List, [], ◌∷◌, reverse}
+use Rattle.std.specs.Prelude.{◌≡◌, ℕ, ◌≤◌, List, [], ◌∷◌, ◌++◌, reverse}
+use Rattle.std.specs.List.{AllZip}
 use Rattle.log_model.specs.Logs.{Log, end_at, steps}
+use Rattle.report_model.specs.Query.{Query}
 use Rattle.epoch_cut.specs.Numbered.{NumberedEpoch}
 use Rattle.replay_run.specs.Counters.{CountRecords}
 use Rattle.replay_run.specs.Runs.{RunAt}
 use Rattle.replayer.specs.InParts.{resumed}
+use Rattle.epoch_summary.specs.declared.summary.Summary.{Summary}
+use Rattle.local_taint.specs.Ahead.{IsFoundAhead}
 use Rattle.checked_epochs.specs.declared.ahead.Beginning.{Beginning}
 use Rattle.checked_epochs.specs.declared.ahead.Ahead.{Ahead}
 use Rattle.checked_epochs.specs.declared.ahead.Next.{Next}
@@ -23,6 +27,10 @@ left_of a = reverse a.left.items
 -- where the check stands
 abbrev pub stand_of : Log → Ahead → RunAt
 stand_of log a = resumed log a.state
+
+-- these are the summaries of all epochs that aren't begun, that of the run's last first
+abbrev pub AreOfLeft : Query → Log → Ahead → List Summary → Type 0
+AreOfLeft q log a all = AllZip (IsFoundAhead q (stand_of log a)) (left_of a ++ a.last ∷ []) (reverse all)
 
 -- the check stands where the first of the epochs begins that are left, or before, and the last ends with the run
 pub record IsAhead (log : Log) (a : Ahead) : Type 0 where

@@ -1,7 +1,8 @@
 -- Epochs that begin where a check stood.
-use Rattle.std.specs.Prelude.{◌≡◌, ℕ, ◌≤◌}
+use Rattle.std.specs.Prelude.{◌≡◌, ℕ, ◌≤◌, None}
 use Rattle.log_model.specs.Logs.{Log, end_at, steps}
 use Rattle.report_model.specs.Query.{Query}
+use Rattle.replay_model.specs.Comparison.{divergence}
 use Rattle.replay_run.specs.Counters.{CountRecords}
 use Rattle.replay_run.specs.Runs.{RunAt}
 use Rattle.replayer.specs.Cursors.{Stands}
@@ -16,6 +17,10 @@ use Rattle.checked_epochs.specs.declared.ahead.Beginning.{Beginning}
 pub record Leads (before after : RunAt) : Type 0 where
   pub stands : (job : Job) → Stands job before → Stands job after
   pub agrees : (job : Job) → AgreesSoFar job before → AgreesSoFar job after
+
+-- of each job that agrees with its log up to here, nothing differs from the log at all
+abbrev pub AgreesToEnd : RunAt → Type 0
+AgreesToEnd run = (job : Job) → AgreesSoFar job run → divergence job.start job.log ≡ None
 
 -- the run of some job stands here
 abbrev pub IsOfSome : RunAt → Type 0

@@ -35,7 +35,7 @@ pub record IsFirstAhead (q : Query) (run : RunAt) (past_first : ℕ) (first : Fi
   pub found : (job : Job) → Stands job run → IsFirstFound q (trace_of job) past_first first
   pub in_range : (job : Job) → Stands job run → AreInRange (trace_of job) 0 past_first
 
--- that is found of the epoch that begins here
+-- it is what is found of the run's first epoch, which begins here
 abbrev pub IsFirstOf : Query → Log → Beginning → FirstEpoch → Type 0
 IsFirstOf q log b e = IsFirstAhead q (run_of log b) b.ticket.past_last (found_of e)
 

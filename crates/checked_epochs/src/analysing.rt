@@ -1,12 +1,10 @@
 //! The analysis of an epoch from where it begins.
 
-ghost use Rattle.std.specs.Prelude.{◌≡◌, None, IfOk, OnOk, IfErr};
+ghost use Rattle.std.specs.Prelude.{◌≡◌, IfOk, OnOk, IfErr};
 ghost use Rattle.no_memory.specs.Faults.{IsCausedBy};
-ghost use Rattle.replay_model.specs.Comparison.{divergence};
 ghost use Rattle.replay_run.specs.Counters.{CountRecords};
-ghost use Rattle.replayer.specs.InParts.{AgreesSoFar, Differs};
-ghost use Rattle.replayer.specs.Jobs.{Job as JobAt};
-ghost use Rattle.checked_epochs.specs.Beginnings.{IsBegun, IsLastBegun, IsFoundOf, run_of};
+ghost use Rattle.replayer.specs.InParts.{Differs};
+ghost use Rattle.checked_epochs.specs.Beginnings.{AgreesToEnd, IsBegun, IsLastBegun, IsFoundOf, run_of};
 
 use crate::ahead::Beginning;
 use epoch_cut::EpochTicket;
@@ -63,8 +61,7 @@ pub fn analyse_last<G: Gate>(
 ) -> Result<Summary, Fault<Divergence>>
     requires { IsLastBegun log.now beginning }
     ensures found { IfOk result (IsFoundOf query.now log.now beginning) }
-    ensures agrees { OnOk result ((job : JobAt)
-        → AgreesSoFar job (run_of log.now beginning) → divergence job.start job.log ≡ None) }
+    ensures agrees { OnOk result (AgreesToEnd (run_of log.now beginning)) }
     ensures fault { IfErr result (IsCausedBy (Differs (run_of log.now beginning))) }
 {
     let (ticket, checker) = enter(alloc, gate, log, beginning)?;

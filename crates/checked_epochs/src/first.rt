@@ -1,11 +1,9 @@
 //! The analysis of the run's first epoch, before which there was nothing.
 
-ghost use Rattle.std.specs.Prelude.{◌≡◌, None, IfOk, OnOk, IfErr};
+ghost use Rattle.std.specs.Prelude.{◌≡◌, IfOk, OnOk, IfErr};
 ghost use Rattle.no_memory.specs.Faults.{IsCausedBy};
-ghost use Rattle.replay_model.specs.Comparison.{divergence};
-ghost use Rattle.replayer.specs.InParts.{AgreesSoFar, Differs};
-ghost use Rattle.replayer.specs.Jobs.{Job as JobAt};
-ghost use Rattle.checked_epochs.specs.Beginnings.{IsBegun, IsLastBegun, run_of};
+ghost use Rattle.replayer.specs.InParts.{Differs};
+ghost use Rattle.checked_epochs.specs.Beginnings.{AgreesToEnd, IsBegun, IsLastBegun, run_of};
 ghost use Rattle.checked_epochs.specs.Found.{IsFirstOf};
 
 use crate::ahead::Beginning;
@@ -49,8 +47,7 @@ pub fn analyse_only<G: Gate>(
     requires begun { IsLastBegun log.now beginning }
     requires first { beginning.ticket.first ≡ 0 }
     ensures found { IfOk result (IsFirstOf query.now log.now beginning) }
-    ensures agrees { OnOk result ((job : JobAt)
-        → AgreesSoFar job (run_of log.now beginning) → divergence job.start job.log ≡ None) }
+    ensures agrees { OnOk result (AgreesToEnd (run_of log.now beginning)) }
     ensures fault { IfErr result (IsCausedBy (Differs (run_of log.now beginning))) }
 {
     let (_, checker) = enter(alloc, gate, log, beginning)?;

@@ -1,15 +1,11 @@
 //! The epochs that are left, each analysed while the check goes on through the later ones.
 
-ghost use Rattle.std.specs.Prelude.{◌≡◌, None, ◌∷◌, ◌++◌, [], reverse, IfOk, OnOk, IfErr};
-ghost use Rattle.std.specs.List.{AllZip};
+ghost use Rattle.std.specs.Prelude.{IfOk, OnOk, IfErr};
 ghost use Rattle.std.specs.Thread.{IsSync};
 ghost use Rattle.no_memory.specs.Faults.{IsCausedBy};
-ghost use Rattle.replay_model.specs.Comparison.{divergence};
-ghost use Rattle.replayer.specs.InParts.{AgreesSoFar, Differs};
-ghost use Rattle.replayer.specs.Jobs.{Job as JobAt};
-ghost use Rattle.local_taint.specs.Ahead.{IsFoundAhead};
-ghost use Rattle.checked_epochs.specs.Beginnings.{IsBegun, IsFoundOf, run_of};
-ghost use Rattle.checked_epochs.specs.Aheads.{IsAhead, left_of, stand_of};
+ghost use Rattle.replayer.specs.InParts.{Differs};
+ghost use Rattle.checked_epochs.specs.Beginnings.{AgreesToEnd, IsBegun, IsFoundOf, run_of};
+ghost use Rattle.checked_epochs.specs.Aheads.{AreOfLeft, IsAhead, stand_of};
 
 use crate::ahead::{Ahead, Next, begin_next};
 use crate::analysing::{analyse_ahead, analyse_last};
@@ -36,10 +32,8 @@ pub fn analyse_rest<G: Gate, R: Threads + Sync>(
     ahead: Ahead,
 ) -> Result<Vec<Summary>, Fault<Divergence>>
     requires { IsAhead log.now ahead }
-    ensures found { IfOk result (λ all.
-        AllZip (IsFoundAhead query.now (stand_of log.now ahead)) (left_of ahead ++ ahead.last ∷ []) (reverse all.items)) }
-    ensures agrees { OnOk result ((job : JobAt)
-        → AgreesSoFar job (stand_of log.now ahead) → divergence job.start job.log ≡ None) }
+    ensures found { IfOk result (λ all. AreOfLeft query.now log.now ahead all.items) }
+    ensures agrees { OnOk result (AgreesToEnd (stand_of log.now ahead)) }
     ensures fault { IfErr result (IsCausedBy (Differs (stand_of log.now ahead))) }
 {
     match begin_next(alloc, log, ahead)? {
@@ -56,11 +50,8 @@ pub fn analyse_rest<G: Gate, R: Threads + Sync>(
             { analyse_ahead(alloc, gate, log, query, beginning) };
             let onward = move || -> Result<Vec<Summary>, Fault<Divergence>>
                 requires { IsSync R.row × IsAhead log.now ahead }
-                ensures found { IfOk result (λ all.
-                    AllZip (IsFoundAhead query.entry.now (stand_of log.entry.now ahead)) (left_of ahead ++ ahead.last ∷ [])
-                    (reverse all.items)) }
-                ensures agrees { OnOk result ((job : JobAt)
-                    → AgreesSoFar job (stand_of log.entry.now ahead) → divergence job.start job.log ≡ None) }
+                ensures found { IfOk result (λ all. AreOfLeft query.entry.now log.entry.now ahead all.items) }
+                ensures agrees { OnOk result (AgreesToEnd (stand_of log.entry.now ahead)) }
                 ensures fault { IfErr result (IsCausedBy (Differs (stand_of log.entry.now ahead))) }
             { analyse_rest(rt, alloc, gate, log, query, ahead) };
             let (found, rest) = thread::join(rt, analysis, onward);

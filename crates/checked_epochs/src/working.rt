@@ -1,20 +1,17 @@
 //! A log checked, and the epochs of its run analysed meanwhile.
 
-ghost use Rattle.std.specs.Prelude.{◌≡◌, None, [], ◌∷◌, ◌++◌, reverse, IfOk, OnOk, IfErr};
-ghost use Rattle.std.specs.List.{AllZip};
+ghost use Rattle.std.specs.Prelude.{◌≡◌, [], ◌∷◌, ◌++◌, reverse, IfOk, OnOk, IfErr};
 ghost use Rattle.std.specs.Thread.{IsSync};
 ghost use Rattle.log_model.specs.Logs.{steps};
 ghost use Rattle.no_memory.specs.Faults.{IsCausedBy};
-ghost use Rattle.replay_model.specs.Comparison.{divergence};
 ghost use Rattle.epoch_model.specs.Cutting.{IsCutting, epochs};
 ghost use Rattle.epoch_cut.specs.Numbered.{numbered};
 ghost use Rattle.replayer.specs.Checks.{IsChecked, IsMisfit};
-ghost use Rattle.replayer.specs.InParts.{AgreesSoFar, Differs, IsOpened};
-ghost use Rattle.replayer.specs.Jobs.{Job as JobAt, trace_of};
-ghost use Rattle.local_taint.specs.Ahead.{IsFoundAhead};
+ghost use Rattle.replayer.specs.InParts.{Differs, IsOpened};
+ghost use Rattle.replayer.specs.Jobs.{trace_of};
 ghost use Rattle.summary_join.specs.First.{found_of};
-ghost use Rattle.checked_epochs.specs.Beginnings.{IsBegun, IsOfSome, run_of};
-ghost use Rattle.checked_epochs.specs.Aheads.{IsAhead, left_of, stand_of};
+ghost use Rattle.checked_epochs.specs.Beginnings.{AgreesToEnd, IsBegun, IsOfSome, run_of};
+ghost use Rattle.checked_epochs.specs.Aheads.{AreOfLeft, IsAhead, left_of, stand_of};
 ghost use Rattle.checked_epochs.specs.Found.{AreAllAhead, AreAllFound, IsFirstOf};
 
 use crate::ahead::{Ahead, Next, begin_next};
@@ -80,7 +77,7 @@ fn open(
     Ok(ahead)
 }
 
-/// What is found of the run's first epoch, and the summaries of the later ones, that of the last first, where no epoch is begun.
+/// What is found of the run's first epoch, and the summaries of the later ones, that of the last first, where none is begun yet.
 /// Each epoch is analysed in a thread of its own, where one can be made, while the check goes on to the next one, and enters the
 /// gate as its analysis begins. It says where the log differs from the run; else it gives up with NoMemory alone.
 fn analyse_epochs<G: Gate, R: Threads + Sync>(
@@ -95,8 +92,7 @@ fn analyse_epochs<G: Gate, R: Threads + Sync>(
     requires next { ahead.next ≡ 0 }
     ensures found { IfOk result (λ r.
         AreAllAhead query.now (stand_of log.now ahead) (left_of ahead ++ ahead.last ∷ []) (found_of r.0) (reverse r.1.items)) }
-    ensures agrees { OnOk result ((job : JobAt)
-        → AgreesSoFar job (stand_of log.now ahead) → divergence job.start job.log ≡ None) }
+    ensures agrees { OnOk result (AgreesToEnd (stand_of log.now ahead)) }
     ensures fault { IfErr result (IsCausedBy (Differs (stand_of log.now ahead))) }
 {
     match begin_next(alloc, log, ahead)? {
@@ -112,11 +108,8 @@ fn analyse_epochs<G: Gate, R: Threads + Sync>(
             { analyse_first(alloc, gate, log, query, beginning) };
             let onward = move || -> Result<Vec<Summary>, Fault<Divergence>>
                 requires { IsSync R.row × IsAhead log.now ahead }
-                ensures found { IfOk result (λ all.
-                    AllZip (IsFoundAhead query.entry.now (stand_of log.entry.now ahead)) (left_of ahead ++ ahead.last ∷ [])
-                    (reverse all.items)) }
-                ensures agrees { OnOk result ((job : JobAt)
-                    → AgreesSoFar job (stand_of log.entry.now ahead) → divergence job.start job.log ≡ None) }
+                ensures found { IfOk result (λ all. AreOfLeft query.entry.now log.entry.now ahead all.items) }
+                ensures agrees { OnOk result (AgreesToEnd (stand_of log.entry.now ahead)) }
                 ensures fault { IfErr result (IsCausedBy (Differs (stand_of log.entry.now ahead))) }
             { analyse_rest(rt, alloc, gate, log, query, ahead) };
             let (first, later) = thread::join(rt, analysis, onward);
