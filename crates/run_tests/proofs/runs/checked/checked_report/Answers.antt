@@ -8,6 +8,6 @@ check_and_query-checked-requires-clause-ready g c = (
   λ program log query cuts parallelism cutting. ((cutting, (search rules, search rules)), λ r post. post.4),
   (
     λ points query cuts parallelism begins. (((begins, (search rules, search rules)), λ r post. post.2), ((begins, (search rules, search rules)), λ r post. post.2)),
-    λ rows workers. ((search rules, search rules), λ r post. post.2),
+    λ rows workers. (search rules, λ r post. post),
   ),
 )
