@@ -9,10 +9,11 @@ use memory_outside::MemorySink;
 use outer_io::{Buffer, InPieces, Pieces, write_in_pieces};
 use query_lang::{Query, parse};
 use sink_collect::{
-    Report, SinkSet, gather, influence_text, put_influence, put_numbered, put_text, text,
-    turn_round,
+    Report, SinkSet, gather, influence_text, put_influence, put_numbered, put_rows, put_text, text,
+    texts_at_once, turn_round,
 };
 use source_ranges::SourceSet;
+use std::thread::Threads;
 
 /// The set of an output byte or a point, with one source byte on each of the channels 0 and 15, or with none.
 fn set(rt: &impl Runtime, sink: SinkPoint, source: Option<u32>) -> SinkSet
@@ -157,5 +158,37 @@ fn a_text_is_written_in_pieces(rt: HostRuntime) {
         for failing in 0..40 {
             assert_pieces(&rt, &lines, *room, failing);
         }
+    }
+}
+
+/// Rows of so many output bytes, with two source bytes each.
+fn rows_of_bytes(rt: &impl Runtime, count: u32) -> Vec<SinkSet> {
+    let mut rows = Vec::new(rt.alloc());
+    for offset in 0..count {
+        rows.push(set(rt, output!(1, offset), Some(offset)))
+            .expect(rt, "memory");
+    }
+    rows
+}
+
+/// Several workers make several texts, which are the lines of these rows.
+fn assert_texts(rt: &(impl Runtime + Threads + Sync), rows: &[SinkSet], workers: u32) {
+    let alloc = rt.alloc();
+    let texts = texts_at_once(rt, alloc, rows, workers).expect(rt, "memory");
+    assert_same(rt, texts.len() > 1, workers > 1);
+    let mut found = Vec::new(alloc);
+    for text in texts.as_slice() {
+        found.extend_from_slice(text).expect(rt, "memory");
+    }
+    let mut lines = Vec::new(alloc);
+    put_rows(&mut lines, rows).expect(rt, "memory");
+    assert_same(rt, found.as_slice(), lines.as_slice());
+}
+
+#[test]
+fn several_workers_make_a_long_text(rt: HostRuntime) {
+    let rows = rows_of_bytes(&rt, 8000);
+    for workers in [1, 2, 3, 64] {
+        assert_texts(&rt, &rows, workers);
     }
 }
