@@ -16,8 +16,8 @@ pub enum Given<'a> {
 }
 
 /// Writes what a command gives: a file, or a text to the output, in pieces that go through the buffer. The engine makes the lines
-/// of reports, by at most so many workers at once; no write fails for want of memory. Where it answers Ok, neither the store nor
-/// the output failed.
+/// of reports, by at most so many workers at once; out of memory, it makes them one after another. Where the answer is Ok, neither
+/// the store nor the output failed.
 pub fn deliver<E: Engine, S: Store, O: Sink>(
     engine: &E,
     store: &mut S,

@@ -27,7 +27,7 @@ const LEAST_LENGTH: u64 = 262144;
 /// more.
 const LENGTHS_OF_FIRST: u32 = 3;
 
-/// The cuts of so many steps of a run, such that there is an epoch for each worker.
+/// The cuts of so many steps of a run, into as many epochs as workers at most.
 fn untold_cuts(steps: u64, workers: u32) -> Cuts
     requires { workers ≤ 64 }
     ensures times { result ≡ cuts_by None workers steps }
