@@ -15,7 +15,9 @@ use crate::touched::{Span, Touched, stored, written};
 use epoch_cut::Cuts;
 use flow_model::StepSeen;
 use no_memory::NoMemory;
-use replayer::{Follower, Instr, Job, Load, PlainStep, Position, RunWatcher, Store, Watcher};
+use replayer::{
+    Follower, Instr, InstructionAddress, Job, Load, PlainStep, Position, RunWatcher, Store, Watcher,
+};
 use std::alloc::Global;
 use std::marker::Model;
 
@@ -113,7 +115,7 @@ impl Follower for CheckpointTaker {
     ghost wants = { λ _ _. Unit {0} };
 
     #[inline(always)]
-    fn wants_step(&self, _pc: u32) -> bool {
+    fn wants_step(&self, _at: &InstructionAddress) -> bool {
         true
     }
 

@@ -16,7 +16,9 @@ use flow_model::StepSeen;
 use log_model::RunEnd;
 use no_memory::NoMemory;
 use query_lang::Query;
-use replayer::{Follower, Instr, Load, PlainStep, Position, RunWatcher, Store, Watcher};
+use replayer::{
+    Follower, Instr, InstructionAddress, Load, PlainStep, Position, RunWatcher, Store, Watcher,
+};
 use std::alloc::Global;
 use std::marker::Model;
 
@@ -135,7 +137,7 @@ impl<'q> Follower for DecisionWatching<'q> {
 
     ghost wants = { λ _ _. Unit {0} };
 
-    fn wants_step(&self, _pc: u32) -> bool {
+    fn wants_step(&self, _at: &InstructionAddress) -> bool {
         true
     }
 

@@ -17,7 +17,8 @@ use epoch_summary::{Nodes, Summary};
 use no_memory::{Fault, NoMemory};
 use query_lang::Query;
 use replayer::{
-    Checker, Divergence, Follower, Instr, Load, PlainStep, Position, StepSeen, Store, Watcher,
+    Checker, Divergence, Follower, Instr, InstructionAddress, Load, PlainStep, Position, StepSeen,
+    Store, Watcher,
 };
 use std::alloc::Global;
 use std::marker::Model;
@@ -58,7 +59,7 @@ impl<'q> Follower for EpochWatching<'q> {
     ghost wants = { λ _ _. Unit {0} };
 
     #[inline(always)]
-    fn wants_step(&self, _pc: u32) -> bool {
+    fn wants_step(&self, _at: &InstructionAddress) -> bool {
         true
     }
 

@@ -17,7 +17,9 @@ use crate::sinks::{sink_at_end, sink_in};
 use crate::trail::Trail;
 use flow_model::{Rule, SinkPoint, StepSeen};
 use no_memory::NoMemory;
-use replayer::{Follower, Instr, Job, Load, PlainStep, Position, RunWatcher, Store, Watcher};
+use replayer::{
+    Follower, Instr, InstructionAddress, Job, Load, PlainStep, Position, RunWatcher, Store, Watcher,
+};
 use std::alloc::Global;
 use std::marker::Model;
 
@@ -170,7 +172,7 @@ impl Follower for PathWatching {
 
     ghost wants = { λ _ _. Unit {0} };
 
-    fn wants_step(&self, _pc: u32) -> bool {
+    fn wants_step(&self, _at: &InstructionAddress) -> bool {
         true
     }
 

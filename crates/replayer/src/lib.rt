@@ -25,6 +25,6 @@ pub use flow_model::{CallSeen, StepSeen};
 pub use isa::Instr;
 pub use job::{CheckFault, Job, ReplaySummary, steps_of};
 pub use replay_model::{Divergence, Field, Misfit};
-pub use rv_machine::{Follower, Load, Store};
+pub use rv_machine::{Follower, InstructionAddress, Load, Store};
 pub use saved::{CursorState, Rest};
 pub use watcher::{Nobody, Position, RunWatcher, Watcher};

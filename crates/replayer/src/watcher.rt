@@ -11,7 +11,7 @@ use crate::cursor::PlainStep;
 use flow_model::StepSeen;
 use isa::Instr;
 use replay_run::Run;
-use rv_machine::{Follower, Load, Store};
+use rv_machine::{Follower, InstructionAddress, Load, Store};
 use std::marker::Model;
 
 /// Where a run stands, lent to a watcher.
@@ -78,7 +78,7 @@ impl Follower for Nobody {
     ghost wants = { λ _ _. Unit {0} };
 
     #[inline(always)]
-    fn wants_step(&self, _pc: u32) -> bool {
+    fn wants_step(&self, _at: &InstructionAddress) -> bool {
         true
     }
 

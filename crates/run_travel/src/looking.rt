@@ -9,7 +9,7 @@ use crate::access::Span;
 use crate::aim::Aim;
 use crate::points::Points;
 use crate::watch::Watch;
-use replayer::{Follower, Instr, Load, Store};
+use replayer::{Follower, Instr, InstructionAddress, Load, Store};
 use std::marker::Model;
 
 /// One who looks at plain steps in a row, up to one that meets a watchpoint, or after which the pc is one at which a move
@@ -66,7 +66,8 @@ impl<'p> Follower for Looking<'p> {
     ghost wants = { IsWanted };
 
     #[inline(always)]
-    fn wants_step(&self, pc: u32) -> bool {
+    fn wants_step(&self, at: &InstructionAddress) -> bool {
+        let pc = at.pc();
         self.met.is_none() && !self.points.has_break(pc) && !self.aim.is_reached(pc)
     }
 

@@ -22,6 +22,7 @@ use no_memory::Fault;
 pub use running::{Follower, Unfollowed};
 pub use rv_decode::{Load, Store};
 pub use saved::{MachineState, Rest};
+pub use state::InstructionAddress;
 
 /// Why there is no machine for an image: the window can't hold it, or out of memory.
 pub type MachineFault = Fault<SmallWindow>;

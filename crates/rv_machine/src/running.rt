@@ -22,9 +22,9 @@ pub trait Follower {
     /// Holds of one who wants a further step, which begins at this pc.
     ghost wants: { Self → ℕ → Type 0 };
 
-    /// Whether it wants a further step, where that begins at this pc: steps in a row end before one that isn't wanted.
-    fn wants_step(&self, pc: u32) -> bool
-        ensures { IsTrue result → wants self.now pc };
+    /// Whether it wants a further step, where that begins at this address: steps in a row end before one that isn't wanted.
+    fn wants_step(&self, at: &InstructionAddress) -> bool
+        ensures { IsTrue result → wants self.now at.now };
 
     /// Whether it need not be told of steps with these registers ([`rv_decode::registers_of`]) that are neither loads nor stores:
     /// being told changes nothing.
@@ -58,7 +58,7 @@ impl Follower for Unfollowed {
     ghost wants = { λ _ _. Unit {0} };
 
     #[inline(always)]
-    fn wants_step(&self, _pc: u32) -> bool {
+    fn wants_step(&self, _at: &InstructionAddress) -> bool {
         true
     }
 
@@ -173,7 +173,7 @@ fn run<F: Follower>(
     let mut left = most;
     while left > 0 {
         let at = InstructionAddress::of_word(base, number as u32);
-        if !follower.wants_step(at.pc()) {
+        if !follower.wants_step(&at) {
             break;
         }
         let slot = slot_at(slots, number);

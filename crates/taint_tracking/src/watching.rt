@@ -10,7 +10,10 @@ ghost use Rattle.taint_tracking.specs.Watched.{IsOfSteps, HasBegun, Finds, Track
 use crate::tracking::{Tracked, Tracking};
 use no_memory::NoMemory;
 use query_lang::Query;
-use replayer::{Follower, Instr, Load, PlainStep, Position, RunWatcher, StepSeen, Store, Watcher};
+use replayer::{
+    Follower, Instr, InstructionAddress, Load, PlainStep, Position, RunWatcher, StepSeen, Store,
+    Watcher,
+};
 use std::alloc::Global;
 use std::marker::Model;
 use taint_shadow::Labels;
@@ -91,7 +94,7 @@ impl<'q, L: Labels + Drop> Follower for Watching<'q, L> {
     ghost wants = { λ _ _. Unit {0} };
 
     #[inline(always)]
-    fn wants_step(&self, _pc: u32) -> bool {
+    fn wants_step(&self, _at: &InstructionAddress) -> bool {
         true
     }
 

@@ -15,7 +15,9 @@ use isa::Instr;
 use rv_decode::{Load, Store};
 use std::marker::Model;
 
-/// An instruction's address, by the number of its word from an origin on: it is put together only where an instruction needs it.
+/// The address of an instruction, kept as an origin and the number of the instruction's word from there on: so the machine puts
+/// it together only for those who ask for it.
+///
 /// Contracts see it as the address.
 #[derive(Drop)]
 pub struct InstructionAddress {
