@@ -9,7 +9,7 @@ use Rattle.isa.specs.Encodings.{Fits}
 use Rattle.isa.specs.Machine.{State, execute, effect_of, address_of, wrap, is_aligned, jumped, landed, branched, loaded, stored, in_window, low_bytes}
 use Rattle.isa.proofs.Window.{holds_by}
 use Rattle.rv_decode.specs.Accesses.{Access, Loads, Stores, Neither, access_of, load_in, store_in, IsNoAccess, FitsLoad, FitsStore}
-use Rattle.rv_machine.specs.Effects.{state_of, pc_after, IsOutcome, IsWritten, landing, branching, loading, storing, next_of, set_if, loaded_value, registers_after, written_if, memory_after}
+use Rattle.rv_machine.specs.Effects.{state_of, pc_after, IsOutcome, IsWritten, landing, branching, loading, storing, next_of, set_if, loaded_value, registers_after, written_if, memory_after, MaySet}
 
 low_short : (n v : ℕ) → length (low_bytes n v) ≤ n
 low_short n v = let short = length-take n (to_le_bytes w32 v) in omega arith
@@ -82,3 +82,9 @@ by_effect s i e none = (refl, refl)
 
 pub does : (s : State) (i : Instr) → Fits i → IsOutcome s i (execute s (effect_of s i)) (address_of (effect_of s i)) (next_of s i (effect_of s i)) (state_of (pc_after s.pc (next_of s i (effect_of s i))) (registers_after s (effect_of s i)) s.base (memory_after s (effect_of s i)))
 does s i fits = by_effect s i (effect_of s i) (accesses s i fits)
+
+-- each register may be set by one who may set any
+pub may_any : (e : Effect) → MaySet (λ d. Unit {0}) e
+may_any (SetRegister d v) = tt
+may_any (Load d address n is_signed) = tt
+may_any e = tt

@@ -17,7 +17,7 @@ use Rattle.rv_machine.specs.Decoded.{HasBits, IsThere, IsKnown, AreKnown, AreFor
 use Rattle.rv_machine.specs.Effects.{IsWritten, window_of}
 
 unknown : (memory : List ℕ) (offset : ℕ) → IsKnown memory offset UNKNOWN
-unknown memory offset = record { bits = record { fits = tt; bits = refl }; is = inl refl }
+unknown memory offset = record { bits = record { fits = tt; sets = λ s. tt; bits = refl }; is = inl refl }
 
 pub none_known : (n : ℕ) (slots : List Slot) → slots ≡ replicate n UNKNOWN → KnowsNothing slots
 none_known n slots e memory =

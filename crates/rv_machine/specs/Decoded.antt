@@ -6,6 +6,7 @@ use Rattle.isa.specs.Words.{instruction_of}
 use Rattle.isa.specs.Encodings.{Fits}
 use Rattle.isa.specs.Machine.{little_endian}
 use Rattle.rv_decode.specs.Registers.{registers_of}
+use Rattle.rv_machine.specs.Effects.{SetsNoX0}
 use Rattle.rv_machine.specs.declared.decoded.Slot.{Slot}
 use Rattle.rv_machine.specs.declared.decoded.TheConstants.{UNKNOWN}
 
@@ -14,9 +15,10 @@ pub record IsThere (memory : List ℕ) (offset : ℕ) (instr : Instr) : Type 0 w
   pub inside : offset + 4 ≤ length memory
   pub is : instruction_of (little_endian (take 4 (drop offset memory))) ≡ Some instr
 
--- a slot's instruction fits, and its registers are the instruction's
+-- a slot's instruction fits, and sets no x0 unless it is a jump, and the slot's registers are the instruction's
 pub record HasBits (slot : Slot) : Type 0 where
   pub fits : Fits slot.instr
+  pub sets : SetsNoX0 slot.instr
   pub bits : registers_of slot.instr ≡ slot.registers
 
 -- and the word at its offset stands for the instruction. ECALL says nothing: it stands for one that isn't known, too

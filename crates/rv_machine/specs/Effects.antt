@@ -1,5 +1,5 @@
 -- What doing an instruction comes to, by parts of a state.
-use Rattle.std.specs.Prelude.{◌≡◌, ℕ, ◌+◌, ◌-◌, ◌≤◌, length, Bool, true, false, List, [], Option, Some, None}
+use Rattle.std.specs.Prelude.{◌≡◌, ℕ, ◌+◌, ◌-◌, ◌<◌, ◌≤◌, length, Bool, true, false, List, [], Option, Some, None}
 use Rattle.isa.specs.declared.Instr.{Instr}
 use Rattle.isa.specs.declared.Effect.{Effect}
 use Rattle.isa.specs.declared.Effect.TheVariants.{SetRegister, Jump, Branch, Load, Store, MoveOn, EnvironmentCall, Breakpoint}
@@ -116,3 +116,15 @@ memory_after s (Store address n v) = written_if (in_window s address n) s.memory
 memory_after s MoveOn = s.memory
 memory_after s EnvironmentCall = s.memory
 memory_after s Breakpoint = s.memory
+
+-- ---- the registers that are set
+
+-- the register that an effect sets may be set. A jump may set any
+abbrev pub MaySet : (ℕ → Type 0) → Effect → Type 0
+MaySet may (SetRegister d v) = may d
+MaySet may (Load d address n is_signed) = may d
+MaySet may other = Unit {0}
+
+-- an instruction sets another register than x0, or none, or is a jump
+abbrev pub SetsNoX0 : Instr → Type 0
+SetsNoX0 instr = (s : State) → MaySet (λ d. 0 < d) (effect_of s instr)

@@ -2,13 +2,13 @@
 //!
 //! Most of a run's steps fetch a word that was fetched before. What it stands for is kept, until the word is stored to.
 
-ghost use Rattle.std.specs.Prelude.{◌≡◌, ◌≢◌, [], ℕ, ◌+◌, ◌*◌, ◌/◌, ◌%◌, ◌^◌, ◌<◌, ◌≤◌, List, Some, IfOk, IfSome, IsTrue, ◌↔◌, length};
+ghost use Rattle.std.specs.Prelude.{◌≡◌, ◌≢◌, [], ℕ, ◌+◌, ◌*◌, ◌/◌, ◌%◌, ◌^◌, ◌<◌, ◌≤◌, List, Some, IfOk, IfSome, IsTrue, ◌↔◌, length, false};
 ghost use Rattle.isa.specs.declared.Instr.TheVariants as instruction;
 ghost use Rattle.isa.specs.Words.{instruction_of};
 ghost use Rattle.isa.specs.Encodings.{Fits};
 ghost use Rattle.isa.specs.Machine.{in_window, bytes_at, little_endian};
 ghost use Rattle.rv_machine.specs.Decoded.{slot_of, IsThere, AreKnown, AreForgotten, KnowsNoMore, KnowsNothing};
-ghost use Rattle.rv_machine.specs.Effects.{window_of};
+ghost use Rattle.rv_machine.specs.Effects.{window_of, SetsNoX0};
 
 use crate::state::load;
 use isa::Instr;
@@ -24,6 +24,7 @@ const ROOM: usize = 64;
 const MOST: usize = 1 << 20;
 
 /// The instruction of a word, with the word of its registers ([`registers_of`]). ECALL stands for one that isn't known, too.
+/// The instruction never sets x0, unless it is a jump: so whoever does it need not look for x0.
 #[derive(Clone, Copy)]
 pub struct Slot {
     pub instr: Instr,
@@ -37,7 +38,8 @@ const UNKNOWN: Slot = Slot {
 };
 
 /// A slot for each of the window's words up to the last one that was decoded, and at least one more, whose word is never known: so a
-/// row of known words ends before it. Or no slots at all, and then nothing is kept.
+/// row of known words ends before it. A word whose instruction sets x0 and is no jump is never known either: programs have few of
+/// them. Or no slots at all, and then nothing is kept.
 #[derive(Drop)]
 pub struct DecodedWords {
     pub slots: Vec<Slot>,
@@ -85,14 +87,70 @@ fn forget_some(slots: &mut [Slot], offset: u32, size: u64)
     }
 }
 
-/// Keeps the instruction of a word, if it has a slot that isn't the last.
+/// Whether an instruction sets x0, and is no jump.
+fn sets_x0(instr: &Instr) -> bool
+    ensures { result ≡ false → SetsNoX0 instr.now }
+{
+    match *instr {
+        Instr::Lui { rd, .. }
+        | Instr::Auipc { rd, .. }
+        | Instr::Lb { rd, .. }
+        | Instr::Lh { rd, .. }
+        | Instr::Lw { rd, .. }
+        | Instr::Lbu { rd, .. }
+        | Instr::Lhu { rd, .. }
+        | Instr::Addi { rd, .. }
+        | Instr::Slti { rd, .. }
+        | Instr::Sltiu { rd, .. }
+        | Instr::Xori { rd, .. }
+        | Instr::Ori { rd, .. }
+        | Instr::Andi { rd, .. }
+        | Instr::Slli { rd, .. }
+        | Instr::Srli { rd, .. }
+        | Instr::Srai { rd, .. }
+        | Instr::Add { rd, .. }
+        | Instr::Sub { rd, .. }
+        | Instr::Sll { rd, .. }
+        | Instr::Slt { rd, .. }
+        | Instr::Sltu { rd, .. }
+        | Instr::Xor { rd, .. }
+        | Instr::Srl { rd, .. }
+        | Instr::Sra { rd, .. }
+        | Instr::Or { rd, .. }
+        | Instr::And { rd, .. }
+        | Instr::Mul { rd, .. }
+        | Instr::Mulh { rd, .. }
+        | Instr::Mulhsu { rd, .. }
+        | Instr::Mulhu { rd, .. }
+        | Instr::Div { rd, .. }
+        | Instr::Divu { rd, .. }
+        | Instr::Rem { rd, .. }
+        | Instr::Remu { rd, .. } => rd == 0,
+        Instr::Jal { .. }
+        | Instr::Jalr { .. }
+        | Instr::Beq { .. }
+        | Instr::Bne { .. }
+        | Instr::Blt { .. }
+        | Instr::Bge { .. }
+        | Instr::Bltu { .. }
+        | Instr::Bgeu { .. }
+        | Instr::Sb { .. }
+        | Instr::Sh { .. }
+        | Instr::Sw { .. }
+        | Instr::Fence { .. }
+        | Instr::Ecall
+        | Instr::Ebreak => false,
+    }
+}
+
+/// Keeps the instruction of a word, if it has a slot that isn't the last, and unless it sets x0 and is no jump.
 fn keep(slots: &mut [Slot], number: usize, instr: Instr)
     requires fits { Fits instr }
     requires few { number < 2 ^ 30 }
     ensures { (memory : List ℕ) → AreKnown slots.old memory → IsThere memory (4 * number) instr
         → AreKnown slots.new memory }
 {
-    if number + 1 >= slots.len() {
+    if number + 1 >= slots.len() || sets_x0(&instr) {
         return;
     }
     let registers = registers_of(&instr);

@@ -131,8 +131,8 @@ impl Machine {
 
     /// Makes plain steps in a row, at most so many, and gives how many were made. It may make fewer: it stops before a call,
     /// a trap, or an instruction that it doesn't know yet, which [`Machine::step`] decodes and keeps where there is room
-    /// ([`Machine::keep_decoded`]), and before one that `follower` doesn't want. `follower` is told of each, but for those that
-    /// it passes by.
+    /// ([`Machine::keep_decoded`]), and before one that `follower` doesn't want. It never knows one that sets x0 and is no
+    /// jump. `follower` is told of each, but for those that it passes by.
     #[inline(always)]
     pub fn run_plain<F: Follower>(&mut self, most: u64, follower: &mut F) -> u64
         requires { self.old.waits ≡ false }

@@ -9,7 +9,7 @@ ghost use Rattle.rv_machine.specs.Effects.{state_of};
 ghost use Rattle.rv_machine.specs.Running.{PassesBy, IsMade, IsChanged, made_pc, pc_of, IsFollowed};
 
 use crate::decoded::{DecodedWords, Slot, forget, slot_at};
-use crate::state::{HartState, InstructionAddress, Next, execute};
+use crate::state::{HartState, InstructionAddress, NeverX0, Next, execute};
 use isa::Instr;
 use rv_decode::{Load, Store};
 
@@ -120,7 +120,7 @@ fn make_step<F: Follower>(
     ensures memory { result ≡ None → memory.new ≡ memory.old }
     ensures follower { result ≡ None → follower.new ≡ follower.old }
 {
-    match execute::<F>(registers, memory, base, at, &slot.instr) {
+    match execute::<F, NeverX0>(registers, memory, base, at, &slot.instr) {
         Next::On => {
             tell(follower, slot);
             Some(Made::On)

@@ -5,7 +5,7 @@ ghost use Rattle.isa.specs.Encodings.{Fits};
 ghost use Rattle.isa.specs.Machine.{reg, moved_on, moved_on_with, is_aligned};
 ghost use Rattle.rv_machine.specs.Effects.{pc_after, Executes};
 
-use instructions::set_register;
+use instructions::{AnyRegister, set_register};
 use isa::Instr;
 use no_memory::NoMemory;
 use rv_decode::{Load, Store};
@@ -18,7 +18,7 @@ mod instructions;
 mod memory;
 mod start;
 
-pub use instructions::{InstructionAddress, execute};
+pub use instructions::{InstructionAddress, NeverX0, execute};
 pub use memory::{in_window, load};
 
 /// The exception codes of a step that was fetched.
@@ -145,7 +145,7 @@ impl HartState {
         requires { Fits instr.now }
         ensures { Executes self.old instr.now result self.new }
     {
-        let next = execute::<HartState>(
+        let next = execute::<HartState, AnyRegister>(
             &mut self.registers,
             self.memory.as_mut_slice(),
             self.base,

@@ -4,7 +4,7 @@ ghost use Rattle.std.specs.Prelude.{◌≡◌, ℕ, ◌+◌, ◌-◌, ◌*◌, �
 ghost use Rattle.isa.specs.Encodings.{Fits};
 ghost use Rattle.isa.specs.Machine.{effect_of, wrap, as_word, is_aligned, with_register, in_window, low_bytes};
 ghost use Rattle.rv_decode.specs.Accesses.{IsSize};
-ghost use Rattle.rv_machine.specs.Effects.{state_of, window_of, pc_after, Executes, landing, branching, loading, storing, next_of, set_if, loaded_value, registers_after, written_if, memory_after};
+ghost use Rattle.rv_machine.specs.Effects.{state_of, window_of, pc_after, Executes, landing, branching, loading, storing, next_of, set_if, loaded_value, registers_after, written_if, memory_after, MaySet};
 
 use super::arithmetic::{
     arithmetic_right, is_less, multiply_high, multiply_high_signed_unsigned,
@@ -100,14 +100,51 @@ pub fn set_register(registers: &mut [u32; 32], rd: u8, value: u32)
     }
 }
 
+/// How instructions other than jumps set their register.
+pub trait Setter {
+    /// Holds of a register that such an instruction may name.
+    ghost may_set: { ℕ → Type 0 };
+
+    /// A register gets a value, unless it is x0.
+    fn set_register(registers: &mut [u32; 32], rd: u8, value: u32)
+        requires number { rd < 32 }
+        requires may { may_set rd }
+        ensures { registers.new ≡ with_register registers.old rd value };
+}
+
+/// By a look for x0, where they may name any register.
+pub struct AnyRegister;
+
+impl Setter for AnyRegister {
+    ghost may_set = { λ _. Unit {0} };
+
+    #[inline(always)]
+    fn set_register(registers: &mut [u32; 32], rd: u8, value: u32) {
+        set_register(registers, rd, value);
+    }
+}
+
+/// With no look for x0, where they name any other register.
+pub struct NeverX0;
+
+impl Setter for NeverX0 {
+    ghost may_set = { λ rd. 0 < rd };
+
+    #[inline(always)]
+    fn set_register(registers: &mut [u32; 32], rd: u8, value: u32) {
+        registers[rd as usize] = value;
+    }
+}
+
 /// A register gets a value, and the pc moves on.
 #[inline(always)]
-fn set(registers: &mut [u32; 32], rd: u8, value: u32) -> Next
-    requires { rd < 32 }
+fn set<S: Setter>(registers: &mut [u32; 32], rd: u8, value: u32) -> Next
+    requires number { rd < 32 }
+    requires may { S.may_set rd }
     ensures on { result ≡ Next.On }
     ensures sets { registers.new ≡ with_register registers.old rd value }
 {
-    set_register(registers, rd, value);
+    S::set_register(registers, rd, value);
     Next::On
 }
 
@@ -141,8 +178,15 @@ fn branch(taken: bool, target: u32) -> Next
 
 /// A register gets bytes from an effective address on, sign- or zero-extended.
 #[inline(always)]
-fn load(registers: &mut [u32; 32], memory: &[u8], base: u32, load: Load, address: u32) -> Next
+fn load<S: Setter>(
+    registers: &mut [u32; 32],
+    memory: &[u8],
+    base: u32,
+    load: Load,
+    address: u32,
+) -> Next
     requires register { load.rd < 32 }
+    requires may { S.may_set load.rd }
     requires in_space { base + length memory.now ≤ 2 ^ 32 }
     requires sizes { IsSize load.size }
     requires signed_sizes { IsTrue load.is_signed → (load.size ≡ 1) ⊎ (load.size ≡ 2) }
@@ -155,7 +199,7 @@ fn load(registers: &mut [u32; 32], memory: &[u8], base: u32, load: Load, address
     }
     let value = memory::load(memory, base, address, u32::from(load.size));
     let value = memory::extended(value, load.size, load.is_signed);
-    set_register(registers, load.rd, value);
+    S::set_register(registers, load.rd, value);
     Next::Loaded(address, load)
 }
 
@@ -175,10 +219,10 @@ fn store(memory: &mut [u8], base: u32, store: Store, address: u32, value: u32) -
     Next::Stored(address, store)
 }
 
-/// Does an instruction, and says where it leads. Neither a call nor a trap changes anything. Each caller, named by `C`, has a
-/// copy of its own, so that a loop of steps has the table in its midst.
+/// Does an instruction, and says where it leads. Neither a call nor a trap changes anything. `S` sets its register, unless it is
+/// a jump. Each caller, named by `C`, has a copy of its own, so that a loop of steps has the table in its midst.
 #[inline(always)]
-pub fn execute<C>(
+pub fn execute<C, S: Setter>(
     registers: &mut [u32; 32],
     memory: &mut [u8],
     base: u32,
@@ -186,16 +230,17 @@ pub fn execute<C>(
     instr: &Instr,
 ) -> Next
     requires fits { Fits instr.now }
+    requires may { MaySet S.may_set (effect_of (state_of at.now registers.old base memory.old) instr.now) }
     requires in_space { base + length memory.old ≤ 2 ^ 32 }
     ensures { Executes (state_of at.now registers.old base memory.old) instr.now result
         (state_of (pc_after at.now result) registers.new base memory.new) }
 {
-    by_instruction::<C>(registers, memory, base, at, instr)
+    by_instruction::<C, S>(registers, memory, base, at, instr)
 }
 
 /// The same, instruction by instruction.
 #[inline(always)]
-fn by_instruction<C>(
+fn by_instruction<C, S: Setter>(
     registers: &mut [u32; 32],
     memory: &mut [u8],
     base: u32,
@@ -203,6 +248,7 @@ fn by_instruction<C>(
     instr: &Instr,
 ) -> Next
     requires fits { Fits instr.now }
+    requires may { MaySet S.may_set (effect_of (state_of at.now registers.old base memory.old) instr.now) }
     requires in_space { base + length memory.old ≤ 2 ^ 32 }
     ensures leads { result ≡ next_of (state_of at.now registers.old base memory.old) instr.now
         (effect_of (state_of at.now registers.old base memory.old) instr.now) }
@@ -212,8 +258,8 @@ fn by_instruction<C>(
         (effect_of (state_of at.now registers.old base memory.old) instr.now) }
 {
     match *instr {
-        Instr::Lui { rd, imm } => set(registers, rd, imm.cast_unsigned()),
-        Instr::Auipc { rd, imm } => set(registers, rd, relative(at, imm)),
+        Instr::Lui { rd, imm } => set::<S>(registers, rd, imm.cast_unsigned()),
+        Instr::Auipc { rd, imm } => set::<S>(registers, rd, relative(at, imm)),
         Instr::Jal { rd, imm } => jump(registers, rd, at, relative(at, imm)),
         Instr::Jalr { rd, rs1, imm } => {
             let target = effective_address(registers, rs1, imm) / 2 * 2;
@@ -251,7 +297,7 @@ fn by_instruction<C>(
                 size: 1,
                 is_signed: true,
             };
-            load(registers, memory, base, load_made, address)
+            load::<S>(registers, memory, base, load_made, address)
         }
         Instr::Lh { rd, rs1, imm } => {
             let address = effective_address(registers, rs1, imm);
@@ -261,7 +307,7 @@ fn by_instruction<C>(
                 size: 2,
                 is_signed: true,
             };
-            load(registers, memory, base, load_made, address)
+            load::<S>(registers, memory, base, load_made, address)
         }
         Instr::Lw { rd, rs1, imm } => {
             let address = effective_address(registers, rs1, imm);
@@ -271,7 +317,7 @@ fn by_instruction<C>(
                 size: 4,
                 is_signed: false,
             };
-            load(registers, memory, base, load_made, address)
+            load::<S>(registers, memory, base, load_made, address)
         }
         Instr::Lbu { rd, rs1, imm } => {
             let address = effective_address(registers, rs1, imm);
@@ -281,7 +327,7 @@ fn by_instruction<C>(
                 size: 1,
                 is_signed: false,
             };
-            load(registers, memory, base, load_made, address)
+            load::<S>(registers, memory, base, load_made, address)
         }
         Instr::Lhu { rd, rs1, imm } => {
             let address = effective_address(registers, rs1, imm);
@@ -291,7 +337,7 @@ fn by_instruction<C>(
                 size: 2,
                 is_signed: false,
             };
-            load(registers, memory, base, load_made, address)
+            load::<S>(registers, memory, base, load_made, address)
         }
         Instr::Sb { rs1, rs2, imm } => {
             let address = effective_address(registers, rs1, imm);
@@ -323,125 +369,137 @@ fn by_instruction<C>(
             };
             store(memory, base, store_made, address, value)
         }
-        Instr::Addi { rd, rs1, imm } => set(registers, rd, effective_address(registers, rs1, imm)),
-        Instr::Slti { rd, rs1, imm } => set(
+        Instr::Addi { rd, rs1, imm } => set::<S>(
+            registers,
+            rd,
+            effective_address(registers, rs1, imm),
+        ),
+        Instr::Slti { rd, rs1, imm } => set::<S>(
             registers,
             rd,
             u32::from(register(registers, rs1).cast_signed() < imm),
         ),
-        Instr::Sltiu { rd, rs1, imm } => set(
+        Instr::Sltiu { rd, rs1, imm } => set::<S>(
             registers,
             rd,
             u32::from(register(registers, rs1) < imm.cast_unsigned()),
         ),
-        Instr::Xori { rd, rs1, imm } => set(
+        Instr::Xori { rd, rs1, imm } => set::<S>(
             registers,
             rd,
             register(registers, rs1) ^ imm.cast_unsigned(),
         ),
-        Instr::Ori { rd, rs1, imm } => set(
+        Instr::Ori { rd, rs1, imm } => set::<S>(
             registers,
             rd,
             register(registers, rs1) | imm.cast_unsigned(),
         ),
-        Instr::Andi { rd, rs1, imm } => set(
+        Instr::Andi { rd, rs1, imm } => set::<S>(
             registers,
             rd,
             register(registers, rs1) & imm.cast_unsigned(),
         ),
-        Instr::Slli { rd, rs1, amount } => set(registers, rd, register(registers, rs1) << amount),
-        Instr::Srli { rd, rs1, amount } => set(registers, rd, register(registers, rs1) >> amount),
-        Instr::Srai { rd, rs1, amount } => set(
+        Instr::Slli { rd, rs1, amount } => set::<S>(
+            registers,
+            rd,
+            register(registers, rs1) << amount,
+        ),
+        Instr::Srli { rd, rs1, amount } => set::<S>(
+            registers,
+            rd,
+            register(registers, rs1) >> amount,
+        ),
+        Instr::Srai { rd, rs1, amount } => set::<S>(
             registers,
             rd,
             arithmetic_right(register(registers, rs1), u32::from(amount)),
         ),
-        Instr::Add { rd, rs1, rs2 } => set(
+        Instr::Add { rd, rs1, rs2 } => set::<S>(
             registers,
             rd,
             register(registers, rs1).wrapping_add(register(registers, rs2)),
         ),
-        Instr::Sub { rd, rs1, rs2 } => set(
+        Instr::Sub { rd, rs1, rs2 } => set::<S>(
             registers,
             rd,
             register(registers, rs1).wrapping_sub(register(registers, rs2)),
         ),
-        Instr::Sll { rd, rs1, rs2 } => set(
+        Instr::Sll { rd, rs1, rs2 } => set::<S>(
             registers,
             rd,
             register(registers, rs1) << (register(registers, rs2) % 32),
         ),
-        Instr::Slt { rd, rs1, rs2 } => set(
+        Instr::Slt { rd, rs1, rs2 } => set::<S>(
             registers,
             rd,
             u32::from(is_less(register(registers, rs1), register(registers, rs2))),
         ),
-        Instr::Sltu { rd, rs1, rs2 } => set(
+        Instr::Sltu { rd, rs1, rs2 } => set::<S>(
             registers,
             rd,
             u32::from(register(registers, rs1) < register(registers, rs2)),
         ),
-        Instr::Xor { rd, rs1, rs2 } => set(
+        Instr::Xor { rd, rs1, rs2 } => set::<S>(
             registers,
             rd,
             register(registers, rs1) ^ register(registers, rs2),
         ),
-        Instr::Srl { rd, rs1, rs2 } => set(
+        Instr::Srl { rd, rs1, rs2 } => set::<S>(
             registers,
             rd,
             register(registers, rs1) >> (register(registers, rs2) % 32),
         ),
-        Instr::Sra { rd, rs1, rs2 } => set(
+        Instr::Sra { rd, rs1, rs2 } => set::<S>(
             registers,
             rd,
             arithmetic_right(register(registers, rs1), register(registers, rs2) % 32),
         ),
-        Instr::Or { rd, rs1, rs2 } => set(
+        Instr::Or { rd, rs1, rs2 } => set::<S>(
             registers,
             rd,
             register(registers, rs1) | register(registers, rs2),
         ),
-        Instr::And { rd, rs1, rs2 } => set(
+        Instr::And { rd, rs1, rs2 } => set::<S>(
             registers,
             rd,
             register(registers, rs1) & register(registers, rs2),
         ),
-        Instr::Mul { rd, rs1, rs2 } => set(
+        Instr::Mul { rd, rs1, rs2 } => set::<S>(
             registers,
             rd,
             register(registers, rs1).wrapping_mul(register(registers, rs2)),
         ),
-        Instr::Mulh { rd, rs1, rs2 } => set(
+        Instr::Mulh { rd, rs1, rs2 } => set::<S>(
             registers,
             rd,
             multiply_high(register(registers, rs1), register(registers, rs2)),
         ),
-        Instr::Mulhsu { rd, rs1, rs2 } => set(
+        Instr::Mulhsu { rd, rs1, rs2 } => set::<S>(
             registers,
             rd,
             multiply_high_signed_unsigned(register(registers, rs1), register(registers, rs2)),
         ),
-        Instr::Mulhu { rd, rs1, rs2 } => set(
+        Instr::Mulhu { rd, rs1, rs2 } => set::<S>(
             registers,
             rd,
             multiply_high_unsigned(register(registers, rs1), register(registers, rs2)),
         ),
-        Instr::Div { rd, rs1, rs2 } => set(
+        Instr::Div { rd, rs1, rs2 } => set::<S>(
             registers,
             rd,
             quotient(register(registers, rs1), register(registers, rs2)),
         ),
-        Instr::Divu { rd, rs1, rs2 } => set(
+        Instr::Divu { rd, rs1, rs2 } => set::<S>(
             registers,
             rd,
             unsigned_quotient(register(registers, rs1), register(registers, rs2)),
         ),
-        Instr::Rem { rd, rs1, rs2 } => set(
+        Instr::Rem { rd, rs1, rs2 } => set::<S>(
             registers,
             rd,
             remainder(register(registers, rs1), register(registers, rs2)),
         ),
-        Instr::Remu { rd, rs1, rs2 } => set(
+        Instr::Remu { rd, rs1, rs2 } => set::<S>(
             registers,
             rd,
             unsigned_remainder(register(registers, rs1), register(registers, rs2)),
