@@ -1,85 +1,86 @@
 //! The sets of a run, one stream after another.
 
-ghost use Rattle.std.specs.Prelude.{◌++◌, IfOk, IsPermutation};
+ghost use Rattle.std.specs.Prelude.{◌≡◌, ◌<◌, [], length, IfOk, IsPermutation};
+ghost use Rattle.std.specs.List.{flat_map};
 
 use crate::sets::SinkSet;
 use flow_model::SinkPoint;
 use no_memory::NoMemory;
 use std::alloc::Global;
 
-/// So many streams are put one after another at most.
-const MOST_STREAMS: usize = 16;
+/// The stream of points. Those of output bytes come first, and have the numbers of their channels.
+const POINTS: usize = 256;
 
-/// What a set is of: the output bytes of a channel, or the points. Streams are in the order of a report.
-#[derive(Clone, Copy, PartialEq, Eq, PartialOrd, Ord)]
-enum Stream {
-    Channel(u8),
-    Points,
-}
+/// How many streams there are.
+const STREAMS: usize = 257;
 
-/// The stream of an output byte or a point.
-fn stream_of(sink: SinkPoint) -> Stream {
-    match sink {
-        SinkPoint::Out(byte) => Stream::Channel(byte.channel),
-        SinkPoint::At(_) => Stream::Points,
+/// The stream of a set. Streams are numbered in the order of a report.
+fn stream_of(set: &SinkSet) -> usize
+    ensures { result < 257 }
+{
+    match set.sink() {
+        SinkPoint::Out(byte) => usize::from(byte.channel),
+        SinkPoint::At(_) => POINTS,
     }
 }
 
-/// The least stream of sets; none where there are no sets.
-fn least_stream(sets: &[SinkSet]) -> Option<Stream> {
-    sets.iter().map(|set| stream_of(set.sink())).min()
-}
-
-/// Whether all sets are of one stream.
-fn are_one_stream(sets: &[SinkSet]) -> bool {
-    let Some(first) = sets.first() else {
-        return true;
-    };
-    let stream = stream_of(first.sink());
-    for set in sets {
-        if stream_of(set.sink()) != stream {
-            return false;
-        }
-    }
-    true
-}
-
-/// The sets in an order that is nearly sorted: those of the least stream, and then those of the next one. A run writes the bytes of
-/// each channel in their order, whatever it writes to others in between. It fails only where there is no memory.
+/// The sets in an order that is nearly sorted: those of the first stream, and then those of the next one. A run writes
+/// the bytes of each channel in their order, whatever it writes to others in between. It fails only where there is no
+/// memory.
 pub(crate) fn by_stream(alloc: Global, sets: Vec<SinkSet>) -> Result<Vec<SinkSet>, NoMemory>
     ensures { IfOk result (λ all. IsPermutation sets.items all.items) }
 {
-    if are_one_stream(&sets) {
+    let counts = counts_of(&sets);
+    if counts.contains(&sets.len()) {
         return Ok(sets);
     }
-    let mut all = Vec::with_capacity(alloc, sets.len())?;
-    let mut left = sets;
-    for _ in 0..MOST_STREAMS {
-        let Some(least) = least_stream(&left) else {
-            break;
-        };
-        left = take_stream(alloc, least, left, &mut all)?;
+    let mut streams = rooms_of(alloc, &counts, sets.len())?;
+    for set in sets {
+        streams[stream_of(&set)].push(set)?;
     }
-    all.append(&mut left)?;
-    Ok(all)
+    joined(alloc, streams)
 }
 
-/// Appends the sets of a stream to others, and gives the rest. It fails only where there is no memory.
-fn take_stream(
-    alloc: Global,
-    stream: Stream,
-    sets: Vec<SinkSet>,
-    taken: &mut Vec<SinkSet>,
-) -> Result<Vec<SinkSet>, NoMemory>
-    ensures { IfOk result (λ rest. IsPermutation (taken.old.items ++ sets.items) (taken.new.items ++ rest.items)) }
-{
-    let mut rest = Vec::new(alloc);
+/// How many sets each stream has.
+fn counts_of(sets: &[SinkSet]) -> [usize; STREAMS] {
+    let mut counts = [0; STREAMS];
     for set in sets {
-        if stream_of(set.sink()) == stream {
-            taken.push(set)?;
+        counts[stream_of(set)] += 1;
+    }
+    counts
+}
+
+/// An empty vector for each stream, with room for its sets; that of the first stream that has any has room for all
+/// sets. It fails only where there is no memory.
+fn rooms_of(
+    alloc: Global,
+    counts: &[usize; STREAMS],
+    all: usize,
+) -> Result<Vec<Vec<SinkSet>>, NoMemory>
+    ensures streams { IfOk result (λ rooms. length rooms.items ≡ 257) }
+    ensures empty { IfOk result (λ rooms. flat_map (λ stream. stream.items) rooms.items ≡ []) }
+{
+    let first = counts.iter().position(|count| *count > 0);
+    let mut rooms = Vec::with_capacity(alloc, STREAMS)?;
+    for (stream, count) in counts.iter().enumerate() {
+        let room = if first == Some(stream) { all } else { *count };
+        rooms.push(Vec::with_capacity(alloc, room)?)?;
+    }
+    Ok(rooms)
+}
+
+/// The sets of all streams, one stream after another, in the vector of the first stream that has any. It fails only
+/// where there is no memory.
+fn joined(alloc: Global, streams: Vec<Vec<SinkSet>>) -> Result<Vec<SinkSet>, NoMemory>
+    ensures { IfOk result (λ all. all.items ≡ flat_map (λ stream. stream.items) streams.items) }
+{
+    let mut all = Vec::new(alloc);
+    for mut stream in streams {
+        if all.is_empty() {
+            all = stream;
         } else {
-            rest.push(set)?;
+            all.append(&mut stream)?;
         }
     }
-    Ok(rest)
+    Ok(all)
 }
