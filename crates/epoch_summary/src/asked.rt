@@ -49,6 +49,15 @@ impl Asked {
         }
     }
 
+    /// Nothing is asked, and there is room for so many locations. It gives up with NoMemory alone.
+    pub fn with_room(alloc: Global, count: usize) -> Result<Asked, NoMemory>
+        ensures { IfOk result (λ asked. asked ≡ []) }
+    {
+        let locations = Vec::with_capacity(alloc, count)?;
+        let table = PlaceTable::with_room(alloc, count)?;
+        Ok(Asked { locations, table })
+    }
+
     /// What is true of all that is asked: each location is asked once.
     pub fn form(&self)
         ensures { IsDistinct (eq_by_cmp loc_cmp) self.now }
@@ -97,6 +106,27 @@ impl Asked {
         ensures asked { is_some result ≡ has loc_cmp loc self.now }
         ensures place { IfSome result (λ place. slice_get self.now place ≡ Some loc) }
     {
+        match loc {
+            Loc::Mem { place: byte } => self.find_near(Loc::Mem { place: byte }, place),
+            Loc::Reg { .. } => self.find_lane_near(loc, place),
+        }
+    }
+
+    /// The same for a lane of a register, of which there are few.
+    #[inline(never)]
+    fn find_lane_near(&self, loc: Loc, place: usize) -> Option<usize>
+        ensures asked { is_some result ≡ has loc_cmp loc self.now }
+        ensures place { IfSome result (λ place. slice_get self.now place ≡ Some loc) }
+    {
+        self.find_near(loc, place)
+    }
+
+    /// The same for any location.
+    #[inline(always)]
+    fn find_near(&self, loc: Loc, place: usize) -> Option<usize>
+        ensures asked { is_some result ≡ has loc_cmp loc self.now }
+        ensures place { IfSome result (λ place. slice_get self.now place ≡ Some loc) }
+    {
         if place < self.locations.len() && self.locations[place] == loc {
             return Some(place);
         }
@@ -107,6 +137,29 @@ impl Asked {
     /// memory nothing changes.
     #[inline(always)]
     pub fn add(&mut self, loc: Loc) -> Result<usize, NoMemory>
+        ensures added { OnOk result (self.new ≡ added self.old loc) }
+        ensures place { IfOk result (λ place. slice_get self.new place ≡ Some loc) }
+        ensures err { OnErr result (self.new ≡ self.old) }
+    {
+        match loc {
+            Loc::Mem { place } => self.put(Loc::Mem { place }),
+            Loc::Reg { .. } => self.put_lane(loc),
+        }
+    }
+
+    /// The same for a lane of a register, of which there are few.
+    #[inline(never)]
+    fn put_lane(&mut self, loc: Loc) -> Result<usize, NoMemory>
+        ensures added { OnOk result (self.new ≡ added self.old loc) }
+        ensures place { IfOk result (λ place. slice_get self.new place ≡ Some loc) }
+        ensures err { OnErr result (self.new ≡ self.old) }
+    {
+        self.put(loc)
+    }
+
+    /// The same for any location.
+    #[inline(always)]
+    fn put(&mut self, loc: Loc) -> Result<usize, NoMemory>
         ensures added { OnOk result (self.new ≡ added self.old loc) }
         ensures place { IfOk result (λ place. slice_get self.new place ≡ Some loc) }
         ensures err { OnErr result (self.new ≡ self.old) }

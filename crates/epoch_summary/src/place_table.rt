@@ -65,6 +65,20 @@ impl PlaceTable {
         }
     }
 
+    /// Each value is 0. There is room for the blocks of so many numbers side by side.
+    pub(crate) fn with_room(alloc: Global, count: usize) -> Result<PlaceTable, NoMemory>
+        ensures { IfOk result (λ table. (n : ℕ) → held_at table n ≡ 0) }
+    {
+        let count = count / SLOTS + 2;
+        let blocks = IndexSet::with_capacity(alloc, count)?;
+        let slots = Vec::with_capacity(alloc, SLOTS.saturating_mul(count))?;
+        Ok(PlaceTable {
+            blocks,
+            slots,
+            last: None,
+        })
+    }
+
     /// The value of a number.
     pub(crate) fn value(&self, number: u64) -> usize
         requires { number < 2 ^ 33 }

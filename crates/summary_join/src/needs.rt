@@ -35,7 +35,9 @@ pub fn find_needs(
     let log = summary.nodes().log();
     log.form(); // so that nodes fit into 32 bits
     let mut marks = vec![in alloc; false; log.size() as usize]?;
-    let mut asked = Asked::new(alloc);
+    // an epoch asks for about as many locations as it is asked for, or as it has sinks
+    let about = ends.len().max(summary.sink_count());
+    let mut asked = Asked::with_room(alloc, about)?;
     note_sinks(summary, &mut marks, &mut asked)?;
     note_all(ends, &mut marks, &mut asked)?;
     look_through(log, &mut marks, &mut asked)?;
@@ -43,6 +45,7 @@ pub fn find_needs(
 }
 
 /// Notes the labels of the epoch's sinks. When out of memory, part of them may be noted.
+#[inline(never)]
 fn note_sinks(summary: &Summary, marks: &mut Vec<bool>, asked: &mut Asked) -> Result<(), NoMemory>
     requires { length marks.old.items ≡ length (log_of (nodes_of summary.now)) + 1 }
     ensures noted { OnOk result ((nodes : AnyNodes)
@@ -58,6 +61,7 @@ fn note_sinks(summary: &Summary, marks: &mut Vec<bool>, asked: &mut Asked) -> Re
 }
 
 /// Notes some labels. When out of memory, part of them may be noted.
+#[inline(never)]
 fn note_all(labels: &[Label], marks: &mut Vec<bool>, asked: &mut Asked) -> Result<(), NoMemory>
     requires { All (λ k. node_or_nothing (kind_of k) < length marks.old.items) labels.now }
     ensures { OnOk result

@@ -38,7 +38,7 @@ returns c =
     let length_is = ap length log_is in
     let room : length m0 ≡ length (log_of nodes) + 1 = omega (arith, length_is, c.size.ensures, c.in_ok-marks.ensures.len, c.in_ok-marks.marks.ok) in
     let ordered = subst (AreOrdered 1) log_is c.form.ensures.log.ordered in
-    let first = subst (λ (ls : List Loc). AreNoted nodes (map (λ k. k.label) (sinks_of e)) m0 ls m1 a1) c.new-asked.ensures (c.in_ok-note_sinks.ensures.noted nodes) in
+    let first = subst (λ (ls : List Loc). AreNoted nodes (map (λ k. k.label) (sinks_of e)) m0 ls m1 a1) c.in_ok-asked.ensures (c.in_ok-note_sinks.ensures.noted nodes) in
     let second = c.in_ok-note_all.ensures nodes in
     let third = subst (λ (log : List Entry). AreLookedAt log 0 m2 a2 m3 a3) log_is c.in_ok-look_through.ensures in
     record {

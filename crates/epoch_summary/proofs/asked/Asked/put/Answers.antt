@@ -5,7 +5,7 @@ use Rattle.flow_model.specs.declared.Loc.{Loc}
 use Rattle.flow_model.specs.Orders.{loc_cmp}
 use Rattle.epoch_summary.specs.Placed.{ArePlaced}
 use Rattle.epoch_summary.proofs.Placing.{added_had, added_last, distinct_more, gets_last, has_at, none_read, not_had, place_put, place_read, placed_same}
-use Rattle.epoch_summary.proofs.asked.Asked.add.Goals as goal
+use Rattle.epoch_summary.proofs.asked.Asked.put.Goals as goal
 
 pub invariant_of-self : goal.invariant_of-self
 invariant_of-self c =
