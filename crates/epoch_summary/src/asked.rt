@@ -171,7 +171,8 @@ impl Asked {
         }
         let place = self.locations.len();
         self.locations.push(loc)?;
-        self.table.set(slot, place + 1);
+        let count = self.locations.len();
+        self.table.set(slot, count);
         Ok(place)
     }
 }

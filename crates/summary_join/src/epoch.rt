@@ -83,7 +83,6 @@ fn add_sinks(
 }
 
 /// Carries the labels of sinks.
-#[inline(never)]
 fn carry_sinks(sinks: &mut [SinkLabel], cut: &CutLabels, table: &[Label])
     ensures { sinks.new ≡ map (carried_sink cut.now table.now) sinks.old }
 {
@@ -94,7 +93,6 @@ fn carry_sinks(sinks: &mut [SinkLabel], cut: &CutLabels, table: &[Label])
 }
 
 /// Carries some labels of the epoch's own.
-#[inline(never)]
 fn carry_all(labels: &mut Vec<Label>, cut: &CutLabels, table: &[Label])
     ensures { labels.new.items ≡ map (carried cut.now table.now) labels.old.items }
 {

@@ -45,7 +45,6 @@ pub fn find_needs(
 }
 
 /// Notes the labels of the epoch's sinks. When out of memory, part of them may be noted.
-#[inline(never)]
 fn note_sinks(summary: &Summary, marks: &mut Vec<bool>, asked: &mut Asked) -> Result<(), NoMemory>
     requires { length marks.old.items ≡ length (log_of (nodes_of summary.now)) + 1 }
     ensures noted { OnOk result ((nodes : AnyNodes)
@@ -61,7 +60,6 @@ fn note_sinks(summary: &Summary, marks: &mut Vec<bool>, asked: &mut Asked) -> Re
 }
 
 /// Notes some labels. When out of memory, part of them may be noted.
-#[inline(never)]
 fn note_all(labels: &[Label], marks: &mut Vec<bool>, asked: &mut Asked) -> Result<(), NoMemory>
     requires { All (λ k. node_or_nothing (kind_of k) < length marks.old.items) labels.now }
     ensures { OnOk result

@@ -48,7 +48,6 @@ impl Piece {
 }
 
 /// The labels of these locations at the epoch's end.
-#[inline(never)]
 fn labels_at_end(alloc: Global, summary: &Summary, requests: &Asked) -> Result<Vec<Label>, NoMemory>
     requires { All IsLocation requests.now }
     ensures labels { IfOk result (λ ends. ends.items ≡ map (end_label summary.now) requests.now) }

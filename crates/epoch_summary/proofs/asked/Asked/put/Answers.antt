@@ -1,4 +1,5 @@
-use Rattle.std.proofs.Common.{◌≡◌, List, ap₂, arith, length, slice_get, subst, sym, ◌∙◌}
+use Rattle.std.proofs.Common.{◌≡◌, ◌+◌, List, [], ◌∷◌, ap, ap₂, length, slice_get, subst, sym, ◌∙◌}
+use Rattle.std.proofs.lemmas.List.{length-append}
 use Rattle.std.specs.List.{IsDistinct}
 use Rattle.std.specs.Ordering.{eq_by_cmp}
 use Rattle.flow_model.specs.declared.Loc.{Loc}
@@ -40,11 +41,13 @@ invariant_of-self-2 c =
     let placed = placed_same s.locations.items s.table t c.find.ensures.same c.self.invariant.1 in
     let none = none_read t c.args.loc c.number_of.result c.in_ok-slot.slot c.get-past.result c.number_of.ensures.number c.in_ok-slot.ensures.slot c.get-past.ensures c.if-past-gt0.false in
     let new = not_had s.locations.items t c.args.loc placed none in
-    let more = sym c.in_ok-push.ensures.items in (
+    let more = sym c.in_ok-push.ensures.items in
+    let counted : c.len-count.result ≡ length s.locations.items + 1 =
+    c.len-count.ensures ∙ c.push.new.self.ok.0 ∙ ap length c.in_ok-push.ensures.items ∙ length-append s.locations.items (c.args.loc ∷ []) in (
       subst (IsDistinct (eq_by_cmp loc_cmp)) more (distinct_more s.locations.items c.args.loc c.self.invariant.0 new),
       subst (λ (ls : List Loc). ArePlaced ls c.set.new.self) more
           (place_put s.locations.items c.args.loc t c.set.new.self c.number_of.result c.in_ok-slot.slot _ c.number_of.ensures.fits placed none c.number_of.ensures.number
-          c.in_ok-slot.ensures.slot c.in_ok-slot.ensures.inside (let count = c.len-place.ensures in let all = s.locations.ok in omega (arith, count, all)) c.set.ensures.slots c.set.ensures.blocks),
+          c.in_ok-slot.ensures.slot c.in_ok-slot.ensures.inside counted c.set.ensures.slots c.set.ensures.blocks),
     )
 
 pub returns-clause-added : goal.returns-clause-added
