@@ -9,7 +9,7 @@ use Rattle.flow_model.specs.declared.Message.{Message}
 use Rattle.flow_model.specs.declared.Message.TheVariants.{Ask, Byte, Close, End}
 use Rattle.epoch_model.specs.Summary.{Summary as EpochSummary, SinkTerms}
 use Rattle.stream_model.specs.Streams.{is_ended, requests}
-use Rattle.stream_model.specs.Passes.{Asking, Links, asking_event, asking_by, whole_asking, broken_asking, asked_more, asked_if, wanted_for, is_whole_message, drop_ask, pop_ask, end_asks, walk, push_ask}
+use Rattle.stream_model.specs.Passes.{Asking, Links, asking_event, asking_by, whole_asking, broken_asking, asked_more, asked_if, wanted_for, is_whole_message, drop_ask, pop_ask, end_asks, walk}
 use Rattle.stream_model.specs.Schedules.{begun, whole_asking_need, asking_need_by, asking_need}
 use Rattle.stream_model.specs.Schedules as need
 use Rattle.stream_model.proofs.Growing.{requests_more}

@@ -1,3 +1,7 @@
+mod Needs
+mod Walks
+mod Sorting
+mod Counting
 mod Lists
 mod Starts
 mod Counts

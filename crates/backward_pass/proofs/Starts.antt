@@ -1,5 +1,5 @@
 -- Start locations that are asked, and their places.
-use Rattle.std.proofs.Common.{◌≡◌, ℕ, zero, suc, ◌+◌, ◌<◌, max, List, [], ◌∷◌, ◌++◌, length, take, get_or, refl, ap, ap₂, sym, ◌∙◌, subst, Bool, true, false, ◌||◌, cond, arith, slice_get, Some}
+use Rattle.std.proofs.Common.{◌≡◌, ℕ, zero, suc, ◌+◌, ◌<◌, List, [], ◌∷◌, ◌++◌, length, take, get_or, refl, ap, sym, ◌∙◌, subst, Bool, true, false, ◌||◌, cond, arith, slice_get, Some}
 use Rattle.std.specs.List.{IsDistinct}
 use Rattle.std.specs.Ordering.{eq_by_cmp}
 use Rattle.std.proofs.Math.Seq.{take-suc}
@@ -14,9 +14,8 @@ use Rattle.epoch_model.specs.Crossing.{added, added_all}
 use Rattle.std.proofs.lemmas.Cmp.{eq_by_cmp_equiv}
 use Rattle.flow_model.proofs.Orders.{loc_total}
 use Rattle.epoch_model.proofs.Adding.{any_added_all, added_all-append}
-use Rattle.stream_model.specs.Streams.{places_up_to, places_needed}
+use Rattle.stream_model.specs.Streams.{places_up_to}
 use Rattle.stream_model.proofs.Growing.{added_all_keeps}
-use Rattle.stream_model.proofs.Counting.{places_stay}
 
 -- ---- the place of one location
 
@@ -34,12 +33,6 @@ place_is (m ∷ ms) l (suc i) d is =
     ap (λ (b : Bool). cond b 1 (1 + places_up_to ms l)) ((eq_by_cmp_equiv loc_total).symm l m ∙ apart) ∙ omega (arith, rest)
 
 -- ---- several locations
-
-needed_next : (asked ls : List Loc) (l : Loc) → places_needed asked (ls ++ l ∷ []) ≡ max (places_up_to asked l) (places_needed asked ls)
-needed_next asked [] l = refl
-needed_next asked (m ∷ ms) l =
-    let rest = needed_next asked ms l in
-    ap (max (places_up_to asked m)) rest ∙ grind arith
 
 -- each that was added is asked
 pub within_added : (asked ls : List Loc) → is_within loc_cmp ls (added_all asked ls) ≡ true
@@ -70,27 +63,3 @@ added_next asked ls i d h =
     let later : i + 1 ≡ suc i = omega arith in
     ap (λ (j : ℕ). added_all asked (take j ls)) later ∙ ap (added_all asked) (take-suc ls i d h)
     ∙ added_all-append asked (take i ls) (get_or ls i d ∷ [])
-
--- and the number that is needed is that of the last of them
-needed_more : (asked ls : List Loc) (i : ℕ) (d : Loc) → i < length ls
-    → let now = added_all asked (take i ls) in
-    max (places_up_to (added now (get_or ls i d)) (get_or ls i d)) (places_needed now (take i ls)) ≡ places_needed (added now (get_or ls i d)) (take (i + 1) ls)
-needed_more asked ls i d h =
-    let now = added_all asked (take i ls) in
-    let l = get_or ls i d in
-    let later : i + 1 ≡ suc i = omega arith in
-    let more = added_all_keeps now (l ∷ []) in
-    ap (max (places_up_to (added now l) l))
-    (sym (places_stay now more.0 (take i ls) (within_added asked (take i ls))) ∙ ap (λ (ms : List Loc). places_needed ms (take i ls)) more.1)
-    ∙ sym (needed_next (added now l) (take i ls) l)
-    ∙ ap (places_needed (added now l)) (sym (ap (λ (j : ℕ). take j ls) later ∙ take-suc ls i d h))
-
--- the same where the lists are given by equations
-pub needed_step : (asked ls : List Loc) (i : ℕ) (d : Loc) (now new : List Loc) → i < length ls → now ≡ added_all asked (take i ls) → new ≡ added now (get_or ls i d)
-    → max (places_up_to new (get_or ls i d)) (places_needed now (take i ls)) ≡ places_needed new (take (i + 1) ls)
-needed_step asked ls i d now new h n e =
-    let l = get_or ls i d in
-    let is : new ≡ added (added_all asked (take i ls)) l = e ∙ ap (λ (ms : List Loc). added ms l) n in
-    ap₂ (λ (p q : List Loc). max (places_up_to p l) (places_needed q (take i ls))) is n
-    ∙ needed_more asked ls i d h
-    ∙ ap (λ (p : List Loc). places_needed p (take (i + 1) ls)) (sym is)

@@ -1,26 +1,28 @@
 //! What is asked for a sink, and for a request of the next epoch.
 
-ghost use Rattle.std.specs.Prelude.{◌≡◌, ◌<◌, length, take, Some, false, IfOk, OnOk};
+ghost use Rattle.std.specs.Prelude.{◌≡◌, ◌<◌, length, take, Some, false, IfOk, OnOk, OnErr};
 ghost use Rattle.epoch_model.specs.Crossing.{added, added_all};
-ghost use Rattle.stream_model.specs.Streams.{places_up_to, places_needed};
+ghost use Rattle.stream_model.specs.Streams.{places_up_to};
 ghost use Rattle.stream_model.specs.Passes.{asked_more};
-ghost use Rattle.epoch_summary.specs.Ahead.{IsAhead};
-ghost use Rattle.epoch_summary.specs.Summaries.{summary_of};
+ghost use Rattle.source_labels.specs.Words.{log_of};
+ghost use Rattle.epoch_summary.specs.Summaries.{nodes_of, summary_of};
 ghost use Rattle.pass_parts.specs.Known.{known};
 ghost use Rattle.pass_parts.specs.Requests.{IsCounted, AreCounted};
 ghost use Rattle.backward_pass.specs.Backward.{AreAsked, IsWalked, IsRequested};
+ghost use Rattle.backward_pass.specs.Needs.{AreOfLog};
 
-use epoch_summary::{Asked, Summary, TermsAhead};
+use crate::node_needs::NodeNeeds;
+use epoch_summary::{Asked, Summary};
 use flow_model::Loc;
-use merge_log::TermsReader;
 use no_memory::NoMemory;
-use pass_parts::{Request, Requests, read_end_terms, share_end_terms};
+use pass_parts::{Request, Requests, is_location, share_end_terms};
 
 /// Asks for a start location. It gives how many of the asked locations there are up to it. When out of memory nothing is
 /// asked.
-fn add_start(asked: &mut Asked, start: Loc) -> Result<usize, NoMemory>
+pub(crate) fn add_start(asked: &mut Asked, start: Loc) -> Result<usize, NoMemory>
     ensures added { OnOk result (asked.new ≡ added asked.old start) }
     ensures up_to { IfOk result (λ n. n ≡ places_up_to asked.new start) }
+    ensures err { OnErr result (asked.new ≡ asked.old) }
 {
     let place = asked.add(start)?;
     asked.form();
@@ -28,40 +30,35 @@ fn add_start(asked: &mut Asked, start: Loc) -> Result<usize, NoMemory>
     Ok(place + 1)
 }
 
-/// Asks for the start locations that were read last. It gives how many of the asked locations there are up to the last
-/// of them. When out of memory, part of them may be asked.
-fn add_starts(reader: &TermsReader, asked: &mut Asked) -> Result<usize, NoMemory>
-    ensures added { OnOk result (asked.new ≡ added_all asked.old reader.now.starts) }
-    ensures needed { IfOk result (λ n. n ≡ places_needed asked.new reader.now.starts) }
+/// Asks for some start locations in turn. When out of memory, part of them may be asked.
+pub(crate) fn add_all(starts: &[Loc], asked: &mut Asked) -> Result<(), NoMemory>
+    ensures { OnOk result (asked.new ≡ added_all asked.old starts.now) }
 {
-    let mut needed = 0;
-    for start in reader.starts() {
-        needed = add_start(asked, *start)?.max(needed);
+    for start in starts {
+        asked.add(*start)?;
     }
-    Ok(needed)
+    Ok(())
 }
 
 /// Asks for where the content of a sink was at the epoch's start. The first epoch asks nothing, and a sink with the
 /// label of the one before it nothing more. When out of memory, part of it may be asked.
 pub(crate) fn add_sink(
     summary: &Summary,
-    ahead: &mut TermsAhead,
-    reader: &mut TermsReader,
+    needs: &mut NodeNeeds,
     number: usize,
     first: bool,
     asked: &mut Asked,
 ) -> Result<(), NoMemory>
     requires inside { number < length (summary_of summary.now).sinks }
-    requires ahead { IsAhead summary.now ahead.old }
+    requires of_log { AreOfLog (log_of (nodes_of summary.now)) asked.old needs.old }
     requires walked { first ≡ false → AreAsked asked.old (take number (summary_of summary.now).sinks) }
-    ensures ahead { IsAhead summary.now ahead.new }
+    ensures of_log { AreOfLog (log_of (nodes_of summary.now)) asked.new needs.new }
     ensures walked { OnOk result (IsWalked first (summary_of summary.now).sinks number asked.old asked.new) }
 {
     if first || summary.shares_terms(number) {
         return Ok(());
     }
-    summary.sink_terms_ahead(ahead, reader, number)?;
-    add_starts(reader, asked)?;
+    needs.ask(summary.nodes(), summary.sinks()[number].label, asked)?;
     Ok(())
 }
 
@@ -70,15 +67,14 @@ pub(crate) fn add_sink(
 /// part of it may be asked.
 fn add_location(
     summary: &Summary,
-    ahead: &mut TermsAhead,
-    reader: &mut TermsReader,
+    needs: &mut NodeNeeds,
     loc: Loc,
     asked: &mut Asked,
     requests: &Requests,
 ) -> Result<usize, NoMemory>
-    requires ahead { IsAhead summary.now ahead.old }
+    requires of_log { AreOfLog (log_of (nodes_of summary.now)) asked.old needs.old }
     requires counted { AreCounted asked.old (known (Some summary.now)) requests.now.items }
-    ensures ahead { IsAhead summary.now ahead.new }
+    ensures of_log { AreOfLog (log_of (nodes_of summary.now)) asked.new needs.new }
     ensures asked { OnOk result (asked.new ≡ added_all asked.old ((known (Some summary.now)).ends loc).starts) }
     ensures counted { IfOk result (λ n.
         IsCounted asked.new (known (Some summary.now)) (record { loc = loc; needed_first = n })) }
@@ -88,31 +84,32 @@ fn add_location(
             return Ok(last.needed_first);
         }
     }
-    read_end_terms(summary, ahead, reader, loc)?;
-    add_starts(reader, asked)
+    if !is_location(loc) {
+        return add_start(asked, loc);
+    }
+    needs.ask(summary.nodes(), summary.end_label(loc), asked)
 }
 
 /// Asks for where the content of a requested location was at the epoch's start, and notes the request. The first epoch
 /// asks nothing. When out of memory, part of it may be asked.
 pub(crate) fn add_request(
     summary: &Summary,
-    ahead: &mut TermsAhead,
-    reader: &mut TermsReader,
+    needs: &mut NodeNeeds,
     loc: Loc,
     first: bool,
     asked: &mut Asked,
     requests: &mut Requests,
 ) -> Result<(), NoMemory>
-    requires ahead { IsAhead summary.now ahead.old }
+    requires of_log { AreOfLog (log_of (nodes_of summary.now)) asked.old needs.old }
     requires counted { first ≡ false → AreCounted asked.old (known (Some summary.now)) requests.old.items }
-    ensures ahead { IsAhead summary.now ahead.new }
+    ensures of_log { AreOfLog (log_of (nodes_of summary.now)) asked.new needs.new }
     ensures asked { OnOk result (asked.new ≡ asked_more first asked.old ((known (Some summary.now)).ends loc).starts) }
     ensures noted { OnOk result
         (IsRequested first asked.new (known (Some summary.now)) loc requests.old.items requests.new.items) }
 {
     let mut needed_first = 0;
     if !first {
-        needed_first = add_location(summary, ahead, reader, loc, asked, requests)?;
+        needed_first = add_location(summary, needs, loc, asked, requests)?;
     }
     requests.push(Request { loc, needed_first })?;
     Ok(())

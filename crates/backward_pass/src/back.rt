@@ -3,13 +3,13 @@
 ghost use Rattle.std.specs.Prelude.{◌≡◌, [], true, false};
 ghost use Rattle.pass_parts.specs.Ends.{IsEndFrom, Seen, fresh_end};
 ghost use Rattle.pass_parts.specs.Events.{IsEventOver, HasWaited};
-ghost use Rattle.pass_parts.specs.PassSummaries.{IsOfEpoch};
+ghost use Rattle.backward_pass.specs.Needs.{AreOfEpoch};
 
 use crate::asking::{add_request, add_sink};
+use crate::node_needs::NodeNeeds;
 use epoch_link::{Inlet, Outlet};
-use epoch_summary::{Asked, Summary, TermsAhead};
+use epoch_summary::{Asked, Summary};
 use flow_model::Message;
-use merge_log::TermsReader;
 use pass_parts::{PassStep, PassSummary, PassTurn, Requests, pop_message, push_message};
 use std::alloc::Global;
 
@@ -24,9 +24,8 @@ pub struct Back {
     // The first node asks nothing: nothing flows from the run's start.
     first: bool,
     last: bool,
-    reader: TermsReader,
-    // Terms of the sinks that are walked next, and then of locations that may be requested next.
-    ahead: TermsAhead,
+    // Of a summary that it still reads.
+    needs: NodeNeeds,
     // How many sinks are walked.
     walked: usize,
     // Nothing, where it is broken.
@@ -38,7 +37,7 @@ pub struct Back {
     heard: bool,
     // The End was sent.
     over: bool,
-    ghost of_epoch: { IsOfEpoch epoch ahead },
+    ghost of_epoch: { AreOfEpoch epoch asked needs },
 }
 
 // Written out: where a value that has one is let go, a derived drop is proved anew, with all that is below it.
@@ -63,8 +62,7 @@ impl Back {
             epoch: PassSummary::new(summary, true),
             first,
             last,
-            reader: TermsReader::new(alloc),
-            ahead: TermsAhead::new(alloc),
+            needs: NodeNeeds::new(alloc),
             walked: 0,
             asked: Asked::new(alloc),
             pushed: 0,
@@ -91,8 +89,7 @@ impl Back {
             epoch,
             first: _,
             last: _,
-            reader: _reader,
-            ahead: _ahead,
+            needs: _needs,
             walked: _,
             asked,
             pushed: _,
@@ -125,8 +122,7 @@ impl Back {
         }
         let Ok(()) = add_sink(
             summary,
-            &mut self.ahead,
-            &mut self.reader,
+            &mut self.needs,
             self.walked,
             self.first,
             &mut self.asked,
@@ -148,8 +144,7 @@ impl Back {
                 if let PassSummary::Whole(summary) = &self.epoch {
                     let Ok(()) = add_request(
                         summary,
-                        &mut self.ahead,
-                        &mut self.reader,
+                        &mut self.needs,
                         loc,
                         self.first,
                         &mut self.asked,

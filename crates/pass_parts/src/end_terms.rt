@@ -11,7 +11,7 @@ use merge_log::TermsReader;
 use no_memory::NoMemory;
 
 /// Whether a lane is one of a register. Each address is a location.
-fn is_location(loc: Loc) -> bool
+pub fn is_location(loc: Loc) -> bool
     ensures { result ≡ is_location loc }
 {
     match loc {

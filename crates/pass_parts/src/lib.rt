@@ -13,7 +13,7 @@ mod pass_summary;
 mod pass_turn;
 mod requests;
 
-pub use end_terms::{read_end_terms, share_end_terms};
+pub use end_terms::{is_location, read_end_terms, share_end_terms};
 pub use ends::{pop_message, push_message};
 pub use next::PassStep;
 pub use pass_summary::PassSummary;

@@ -1,4 +1,4 @@
-use Rattle.std.proofs.Common.{rules, ◌≡◌, ◌∙◌, ap, sym, subst, true}
+use Rattle.std.proofs.Common.{rules, ◌≡◌, ◌∙◌, ap, ap₂, cond, sym, subst, true}
 use Rattle.std.specs.Prelude.{Some}
 use Rattle.lists.specs.Sets.{is_within}
 use Rattle.flow_model.specs.Orders.{loc_cmp}
@@ -7,6 +7,10 @@ use Rattle.stream_model.specs.Streams.{places_needed}
 use Rattle.pass_parts.specs.declared.requests.Request.{Request}
 use Rattle.pass_parts.specs.Known.{known}
 use Rattle.pass_parts.specs.Requests.{IsCounted}
+use Rattle.merge_log.specs.Log.{start_term}
+use Rattle.source_labels.specs.Words.{log_of, node_words}
+use Rattle.epoch_summary.specs.Summaries.{nodes_of, summary_of}
+use Rattle.backward_pass.proofs.Needs.{start_asked}
 use Rattle.backward_pass.proofs.Starts.{all_asked}
 use Rattle.backward_pass.proofs.Counts.{counted_now}
 use Rattle.backward_pass.proofs.asking.add_location.Goals as goal
@@ -26,5 +30,15 @@ returns-then-share_end_terms-clause-asked c =
 
 pub returns-clause-counted : goal.returns-clause-counted
 returns-clause-counted c =
-    counted_now c.add_starts.result c.args.asked.now c.add_starts.new.asked (known (Some c.args.summary.now)) c.read_end_terms.new.reader c.args.loc
-    c.in_ok-read_end_terms.ensures.read c.add_starts.ensures.added c.add_starts.ensures.needed
+    let a = c.args in
+    let s = a.summary.now in
+    let terms = node_words.means c.nodes.result.now c.end_label.result in
+    let is : terms ≡ (known (Some s)).ends a.loc =
+    ap₂ (λ nodes label. node_words.means nodes label) c.nodes.ensures c.end_label.ensures.label
+    ∙ ap (λ b. cond b ((summary_of s).ends a.loc) (start_term a.loc)) c.if-not-is_location.ensures in
+    counted_now c.ask.result a.asked.now c.ask.new.asked (known (Some s)) terms a.loc is c.ask.ensures.asked c.ask.ensures.needed
+
+pub returns-then-not-is_location-clause-of_log : goal.returns-then-not-is_location-clause-of_log
+returns-then-not-is_location-clause-of_log c =
+    let a = c.args in
+    start_asked c.add_start.result (log_of (nodes_of a.summary.now)) a.asked.now c.add_start.new.asked a.loc a.needs.now.needs.items c.add_start.ensures.added c.add_start.ensures.err c.requires.of_log

@@ -1,11 +1,11 @@
-use Rattle.std.proofs.Common.{ap, sym, subst, ◌∙◌}
+use Rattle.std.proofs.Common.{◌<◌, ap, false, length, map, sym, subst, ◌∙◌}
+use Rattle.std.proofs.lemmas.List.{length-map}
 use Rattle.lists.proofs.Lists.{drop-within}
-use Rattle.epoch_model.specs.Crossing.{added_all}
 use Rattle.stream_model.specs.Passes.{asked_more}
-use Rattle.epoch_summary.specs.Summaries.{summary_of}
+use Rattle.epoch_summary.specs.Summaries.{named, summary_of}
 use Rattle.backward_pass.specs.Backward.{IsWalked}
 use Rattle.backward_pass.proofs.Counts.{shared_sink}
-use Rattle.backward_pass.proofs.Lists.{sink_after}
+use Rattle.backward_pass.proofs.Counting.{sink_walked}
 use Rattle.backward_pass.proofs.asking.add_sink.Goals as goal
 use Rattle.backward_pass.proofs.asking.add_sink.Goals.{then-first-via-then-first, then-first-via-else-first+then-shares_terms}
 
@@ -24,10 +24,11 @@ returns-then-first-clause-walked c =
 
 pub returns-clause-walked : goal.returns-clause-walked
 returns-clause-walked c =
-    let next = sink_after (summary_of c.args.summary.now).sinks c.args.number _ c.in_ok-sink_terms_ahead.ensures.read in
-    record {
-      sink = next.0;
-      is = next.2;
-      added = c.in_ok-add_starts.ensures.added ∙ ap (λ t. added_all c.args.asked.now t.starts) (sym next.1)
-          ∙ sym (ap (λ b. asked_more b c.args.asked.now next.0.terms.starts) c.if-first.false);
-    }
+    let a = c.args in
+    let s = a.summary.now in
+    let ks = c.sinks.result.now in
+    let inside = subst (λ n. a.number < n) (length-map s.sinks.items (named s.nodes) ∙ ap length (sym c.sinks.ensures.sinks)) c.requires.inside in
+    let walked = sink_walked c.nodes.result.now ks a.number _ a.asked.now c.ask.new.asked inside c.in_ok-ask.ensures.asked in
+    subst (λ b. IsWalked b (map (named s.nodes) s.sinks.items) a.number a.asked.now c.ask.new.asked) (sym c.if-first.false)
+    (subst (λ nodes. IsWalked false (map (named nodes) s.sinks.items) a.number a.asked.now c.ask.new.asked) c.nodes.ensures
+    (subst (λ all. IsWalked false (map (named c.nodes.result.now) all) a.number a.asked.now c.ask.new.asked) c.sinks.ensures.sinks walked))

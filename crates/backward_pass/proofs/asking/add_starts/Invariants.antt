@@ -1,9 +1,0 @@
-use Rattle.std.proofs.Common.{◌≡◌, take}
-use Rattle.epoch_model.specs.Crossing.{added_all}
-use Rattle.stream_model.specs.Streams.{places_needed}
-use Rattle.backward_pass.proofs.asking.add_starts.Given as goal
-
-abbrev pub invariant-loop-start : goal.invariant-loop-start
-invariant-loop-start l =
-    (l.asked ≡ added_all l.fn.asked (take l.start-index l.start-items))
-    × (l.needed ≡ places_needed l.asked (take l.start-index l.start-items))
