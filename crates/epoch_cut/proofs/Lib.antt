@@ -1,2 +1,3 @@
 mod CutTimes
 pub mod Numbered
+pub mod Shrinking

@@ -1,5 +1,5 @@
 -- Runs that are cut by a length.
-use Rattle.std.specs.Prelude.{ℕ, ◌+◌, ◌-◌, ◌*◌, min, max, List, map}
+use Rattle.std.specs.Prelude.{ℕ, ◌+◌, ◌-◌, ◌*◌, ◌/◌, min, max, List, map}
 use Rattle.std.specs.Int.{div_ceil}
 use Rattle.std.specs.List.{range_with_len}
 
@@ -22,3 +22,18 @@ cut_times_from k steps length = map (cut_at steps length) (range_with_len k (epo
 -- where the first epoch has so many lengths, or all that there are
 abbrev pub long_first_times : ℕ → ℕ → ℕ → List ℕ
 long_first_times lengths steps length = cut_times_from (min lengths (epoch_count steps length)) steps length
+
+-- ---- epochs that get shorter: the last one has 1 length, the one before it 3, and the ones before these 6, 10, 15 and so on
+
+-- how many lengths the last m epochs have together
+abbrev pub lengths_of_last : ℕ → ℕ
+lengths_of_last m = m * (m + 1) * (m + 2) / 6
+
+-- the times at which so many of them end
+unfoldable pub shrinking_times : ℕ → ℕ → ℕ → List ℕ
+shrinking_times epochs steps length =
+    map (λ k. cut_at steps length (lengths_of_last epochs - lengths_of_last (epochs - k))) (range_with_len 1 epochs)
+
+-- how long a length is, where so many epochs that get shorter share the steps of a run
+abbrev pub shared_length : ℕ → ℕ → ℕ
+shared_length epochs steps = max 1 (div_ceil steps (lengths_of_last epochs))

@@ -12,5 +12,5 @@ use Rattle.run_query.specs.declared.part.Part.TheVariants.{Whole, Beginning}
 abbrev pub part_by : Option ℕ → ℕ → Query → Log → Part
 part_by told workers q log = let needed = needed_by_log q log in
     if nat_le (steps log / 2) needed
-    then Whole (cuts_by told workers (steps log))
-    else Beginning needed (cuts_by told workers needed)
+    then Whole (cuts_by told q.rule workers (steps log))
+    else Beginning needed (cuts_by told q.rule workers needed)

@@ -19,7 +19,8 @@ use Rattle.jet_refusal.specs.declared.refusal.Refusal.{Refusal}
 use Rattle.jet_refusal.specs.declared.refusal.Refusal.TheVariants as refusal
 use Rattle.jet_model.specs.Outcomes.{and_then}
 use Rattle.jet_model.specs.Contents.{Contents, Names, program_in}
-use Rattle.epoch_model.specs.ByLength.{cut_times, cut_times_from}
+use Rattle.flow_model.specs.declared.Rule.TheVariants.{Copy, Keep, Compute, Index}
+use Rattle.epoch_model.specs.ByLength.{cut_times, cut_times_from, shrinking_times}
 use Rattle.jet_model.specs.Lengths.{epoch_length, cuts_by}
 use Rattle.jet_model.specs.Answer.{start_in, epochs_check, told_check, query_answer, queries_answer, convert_answer}
 use Rattle.jet_model.specs.Report.{over_trace, report_of}
@@ -81,26 +82,34 @@ many_epochs = (refl, refl)
 
 -- ---- the length of epochs
 
--- one that is told; one worker has one epoch
+-- one that is told; one worker has one epoch, by either kind of rule
 lengths :
-    (epoch_length (Some 7) 4 2400000 ≡ 7) × (epoch_length None 1 2400000 ≡ 800000) × (cuts_by None 1 2400000 ≡ 2400000 ∷ [])
-    × (epoch_length None 4 2400000 ≡ 400000) × (epoch_length None 4 1000000 ≡ 262144)
-unfolding cut_times_from
-lengths = (refl, refl, refl, refl, refl)
+    (epoch_length (Some 7) 4 2400000 ≡ 7) × (epoch_length None 1 2400000 ≡ 800000) × (cuts_by None Compute 1 2400000 ≡ 2400000 ∷ [])
+    × (cuts_by None Copy 1 2400000 ≡ 2400000 ∷ []) × (epoch_length None 4 2400000 ≡ 400000) × (epoch_length None 4 1000000 ≡ 262144)
+unfolding cut_times_from shrinking_times
+lengths = (refl, refl, refl, refl, refl, refl)
 
 -- four workers have one epoch each of a long run, the first of three lengths, and fewer of a shorter one
 four_epochs :
-    (cuts_by None 4 2400000 ≡ 1200000 ∷ 1600000 ∷ 2000000 ∷ 2400000 ∷ []) × (cuts_by None 4 1000000 ≡ 786432 ∷ 1000000 ∷ [])
-    × (cuts_by None 4 600000 ≡ 600000 ∷ [])
+    (cuts_by None Compute 4 2400000 ≡ 1200000 ∷ 1600000 ∷ 2000000 ∷ 2400000 ∷ []) × (cuts_by None Index 4 1000000 ≡ 786432 ∷ 1000000 ∷ [])
+    × (cuts_by None Compute 4 600000 ≡ 600000 ∷ [])
 unfolding cut_times_from
 four_epochs = (refl, refl, refl)
 
+-- where moves alone are followed, they have 10, 6, 3 lengths and 1, and fewer of a shorter run
+shorter_epochs :
+    (cuts_by None Copy 4 2400000 ≡ 1200000 ∷ 1920000 ∷ 2280000 ∷ 2400000 ∷ []) × (cuts_by None Keep 4 1000000 ≡ 600000 ∷ 900000 ∷ 1000000 ∷ [])
+    × (cuts_by None Copy 4 600000 ≡ 450000 ∷ 600000 ∷ []) × (cuts_by None Copy 4 0 ≡ 0 ∷ [])
+unfolding shrinking_times
+shorter_epochs = (refl, refl, refl, refl)
+
 -- the last is shorter where the steps are no multiple
 rounded_up :
-    (epoch_length None 4 2400001 ≡ 400001) × (cuts_by None 4 2400001 ≡ 1200003 ∷ 1600004 ∷ 2000005 ∷ 2400001 ∷ [])
+    (epoch_length None 4 2400001 ≡ 400001) × (cuts_by None Compute 4 2400001 ≡ 1200003 ∷ 1600004 ∷ 2000005 ∷ 2400001 ∷ [])
+    × (cuts_by None Copy 4 2400001 ≡ 1200010 ∷ 1920016 ∷ 2280019 ∷ 2400001 ∷ [])
     × (cut_times 2000001 500001 ≡ 500001 ∷ 1000002 ∷ 1500003 ∷ 2000001 ∷ [])
-unfolding cut_times cut_times_from
-rounded_up = (refl, refl, refl)
+unfolding cut_times cut_times_from shrinking_times
+rounded_up = (refl, refl, refl, refl)
 
 -- however long the run is, a told length alone makes too many
 longest : (told_check None (of_steps 18446744073709551615) ≡ Ok tt) × (told_check (Some 1) (of_steps 4097) ≡ Err (refusal.TooManyEpochs 4097))

@@ -8,9 +8,11 @@ use Rattle.std.proofs.lemmas.Grind.{div_ceil_times}
 use Rattle.std.proofs.lemmas.List.FromFn.{length-map-range_with_len}
 use Rattle.std.proofs.lemmas.Nat.{mul-le}
 use Rattle.log_model.specs.Logs.{Log, steps}
-use Rattle.epoch_model.specs.ByLength.{epoch_count, cut_at, cut_times_from}
+use Rattle.flow_model.specs.declared.Rule.{Rule}
+use Rattle.flow_model.specs.declared.Rule.TheVariants.{Copy, Keep, Compute, Index}
+use Rattle.epoch_model.specs.ByLength.{epoch_count, cut_at, cut_times_from, lengths_of_last, shrinking_times, shared_length}
 use Rattle.jet_refusal.specs.declared.refusal.Refusal.TheVariants as refusal
-use Rattle.jet_model.specs.Lengths.{lengths_of_first, epoch_length, cuts_by}
+use Rattle.jet_model.specs.Lengths.{lengths_of_first, epoch_length, shrinking_epochs, times_of_moves, times_of_computed, cuts_by}
 use Rattle.jet_model.specs.Answer.{epochs_check, told_check}
 
 -- what fits q times with less than one left over is no more than q
@@ -34,13 +36,26 @@ untold_lengths-few workers n =
     few_of_length n length (workers + 2) (omega arith) (omega arith)
     (omega (arith, ceil.0, mul-le (workers + 2) (div_ceil n (workers + 2)) (workers + 2) length (omega arith) (omega arith)))
 
-pub untold-few : (workers n : ℕ) → 1 ≤ workers → length (cuts_by None workers n) ≤ workers
+moves-few : (workers n : ℕ) → 1 ≤ workers → length (times_of_moves workers n) ≤ workers
+unfolding shrinking_times
+moves-few workers n some =
+    let epochs = shrinking_epochs workers n in
+    let by = shared_length epochs n in
+    omega (arith, length-map-range_with_len (λ k. cut_at n by (lengths_of_last epochs - lengths_of_last (epochs - k))) 1 epochs, some)
+
+computed-few : (workers n : ℕ) → 1 ≤ workers → length (times_of_computed workers n) ≤ workers
 unfolding cut_times_from
-untold-few workers n some =
+computed-few workers n some =
     let by = epoch_length None workers n in
     let count = epoch_count n by in
     let first = min lengths_of_first count in
     omega (arith, length-map-range_with_len (cut_at n by) first (count + 1 - first), untold_lengths-few workers n, some)
+
+pub untold-few : (rule : Rule) (workers n : ℕ) → 1 ≤ workers → length (cuts_by None rule workers n) ≤ workers
+untold-few Copy = moves-few
+untold-few Keep = moves-few
+untold-few Compute = computed-few
+untold-few Index = computed-few
 
 pub untold-checked : (told : Option ℕ) (workers : ℕ) (log : Log) → workers ≤ 64
     → epochs_check (epoch_length told workers (steps log)) log ≡ told_check told log

@@ -3,6 +3,7 @@
 ghost use Rattle.std.specs.Prelude.{◌≡◌, ◌<◌, ◌≤◌, ◌^◌, ℕ, List, Option, None, Result, Ok, length};
 ghost use Rattle.std.specs.List.{filter};
 ghost use Rattle.isa.specs.Machine.{State};
+ghost use Rattle.flow_model.specs.declared.Rule.{Rule};
 ghost use Rattle.log_model.specs.declared.Version.TheVariants.{Two};
 ghost use Rattle.log_model.specs.Logs.{Log, IsLog, log_text, steps};
 ghost use Rattle.log_model.specs.Reading.{log_of};
@@ -23,7 +24,7 @@ ghost use Rattle.jet_model.specs.Headline.{IsShort, AreShort, AreAllShort, HasFe
 /// Where the words tell no length, a run has no more epochs than workers, and few lengths. So a run is refused for its epochs
 /// only where it has too many of the length that is told.
 pub fn untold_epochs_are_few()
-    ensures few { (workers steps : ℕ) → 1 ≤ workers → length (cuts_by None workers steps) ≤ workers }
+    ensures few { (rule : Rule) (workers steps : ℕ) → 1 ≤ workers → length (cuts_by None rule workers steps) ≤ workers }
     ensures check { (told : Option ℕ) (workers : ℕ) (log : Log) → workers ≤ 64
         → epochs_check (epoch_length told workers (steps log)) log ≡ told_check told log }
 {}

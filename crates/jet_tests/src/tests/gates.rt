@@ -71,6 +71,12 @@ const AT_THE_END: (&str, &str) = (
     "m:0@786435\nend 1\n",
 );
 
+/// The same by a rule that follows computed values too.
+const AT_THE_END_COMPUTED: (&str, &str) = (
+    "rule compute\nsource all\nsink mem 0 1 at 786435\n",
+    "m:0@786435\nend 1\n",
+);
+
 /// The last point before its half.
 const BEFORE_THE_HALF: (&str, &str) = (
     "rule copy\nsource all\nsink mem 0 1 at 393216\n",
@@ -87,11 +93,13 @@ const BY_ONE: Line = "jet query prog log query --workers 1";
 
 const BY_EIGHTHS: Line = "jet query prog log query --epoch 98305 --workers 2";
 
-/// Queries over that run with their reports, and how many epochs enter the gate. Unless their length is told the first is
-/// as long as three others, of 262,144 steps at least. Where fewer than half of the steps are needed, these alone are cut.
+/// Queries over that run with their reports, and how many epochs enter the gate. Unless their length is told they get shorter where
+/// moves alone are followed, no more than the run has times 262,144 steps; else the first is as long as three others, of 262,144 steps
+/// at least. Where fewer than half of the steps are needed, these alone are cut.
 const SHARES: &[(Line, (&str, &str), u32)] = &[
     (BY_ONE, AT_THE_END, 1),
-    (QUERY, AT_THE_END, 2),
+    (QUERY, AT_THE_END, 3),
+    (QUERY, AT_THE_END_COMPUTED, 2),
     (BY_EIGHTHS, AT_THE_END, 8),
     (QUERY, EARLY, 1),
     (BY_EIGHTHS, EARLY, 1),

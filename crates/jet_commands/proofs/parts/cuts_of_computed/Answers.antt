@@ -3,7 +3,7 @@ use Rattle.std.specs.Int.{div_ceil}
 use Rattle.epoch_model.specs.ByLength.{epoch_count, long_first_times}
 use Rattle.jet_model.specs.Lengths.{lengths_of_first, epoch_length}
 use Rattle.jet_model.proofs.Lengths.{untold_lengths-few}
-use Rattle.jet_commands.proofs.parts.untold_cuts.Goals as goal
+use Rattle.jet_commands.proofs.parts.cuts_of_computed.Goals as goal
 
 -- the length that the code computes
 same_length : (steps workers lengths each length : ℕ) → lengths ≡ workers + 2 → each ≡ div_ceil steps lengths → length ≡ max each 262144
