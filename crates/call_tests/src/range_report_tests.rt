@@ -7,7 +7,7 @@ use crate::source_ranges_tests::BYTES;
 use flow_model::{Loc, SinkPoint, SourceByte};
 use range_report::shown;
 use replay_log::{Log, read_log};
-use sink_collect::{Report, SinkSet, gather};
+use sink_collect::{Report, SinkSet, SinkSets, gather};
 use source_ranges::SourceSet;
 
 /// A log in version 1, of a program whose digest is zero: "Ab1,Ab2" is read on channel 0 in two reads and "xyz" on channel
@@ -85,7 +85,7 @@ fn all_kinds(rt: &impl Runtime) -> Report {
         set(rt, LANE, From::Three),
         set(rt, PLACE, From::Nothing),
     ];
-    gather(alloc, sets.expect(rt, "memory")).expect(rt, "memory")
+    gather(alloc, SinkSets::from_vec(sets.expect(rt, "memory"))).expect(rt, "memory")
 }
 
 /// Two bytes from the same three, and one that was changed on the way.
@@ -96,7 +96,7 @@ fn shared_and_changed(rt: &impl Runtime) -> Report {
         set(rt, OUT[1], From::Three),
         set(rt, OUT[2], From::One(6)),
     ];
-    gather(alloc, sets.expect(rt, "memory")).expect(rt, "memory")
+    gather(alloc, SinkSets::from_vec(sets.expect(rt, "memory"))).expect(rt, "memory")
 }
 
 /// A report in runs has this text.

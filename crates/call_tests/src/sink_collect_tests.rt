@@ -9,7 +9,7 @@ use memory_outside::MemorySink;
 use outer_io::{Buffer, InPieces, Pieces, write_in_pieces};
 use query_lang::{Query, parse};
 use sink_collect::{
-    Report, SinkSet, gather, influence_text, put_influence, put_numbered, put_rows, put_text, text,
+    Report, SinkSet, SinkSets, gather, influence_text, put_influence, put_numbered, put_rows, put_text, text,
     texts_at_once, turn_round,
 };
 use source_ranges::SourceSet;
@@ -50,7 +50,7 @@ fn report(rt: &impl Runtime) -> Report {
         set(rt, NINTH, None),
         set(rt, EARLY, Some(7)),
     ];
-    gather(alloc, sets.expect(rt, "memory")).expect(rt, "memory")
+    gather(alloc, SinkSets::from_vec(sets.expect(rt, "memory"))).expect(rt, "memory")
 }
 
 /// The report has this text.

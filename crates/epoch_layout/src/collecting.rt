@@ -14,7 +14,7 @@ use epoch_node::{Ends, Finished, Node};
 use epoch_summary::Asked;
 use flow_model::Message;
 use no_memory::NoMemory;
-use sink_collect::{SinkSet, SinkSets};
+use sink_collect::SinkSets;
 use std::alloc::Global;
 use std::mem;
 
@@ -35,12 +35,11 @@ fn close_link(producer: Option<Producer<Message>>, consumer: Option<Consumer<Mes
 fn in_order(alloc: Global, mut sets: Vec<SinkSets>) -> Result<SinkSets, NoMemory>
     ensures { IfOk result (λ all. all ≡ flat_map (λ rows. rows) (reverse sets.items)) }
 {
-    let mut all: Vec<SinkSet> = Vec::new(alloc);
+    let mut all = SinkSets::from_vec(Vec::new(alloc));
     while let Some(next) = sets.pop() {
-        let mut next = next.into_vec();
-        all.append(&mut next)?;
+        all.append(next)?;
     }
-    Ok(SinkSets::from_vec(all))
+    Ok(all)
 }
 
 /// The items from the last to the first, without the last.

@@ -128,6 +128,5 @@ fn rows_of_sinks<R: Threads + Sync>(
 ) -> Result<SinkSets, NoMemory>
     ensures { IfOk result (λ sets. sets ≡ sinks) }
 {
-    let rows = sinks.rows_at_once(rt, alloc, workers)?;
-    Ok(SinkSets::from_vec(rows))
+    sinks.rows_at_once(rt, alloc, workers)
 }

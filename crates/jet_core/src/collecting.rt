@@ -8,7 +8,7 @@ ghost use Rattle.jet_core.specs.Lines.{Plan, IsLineOf, AreDone};
 use crate::line::Line;
 use epoch_engine::Collected;
 use no_memory::NoMemory;
-use sink_collect::{SinkSet, SinkSets};
+use sink_collect::SinkSets;
 use std::alloc::Global;
 
 /// The items without the first.
@@ -29,7 +29,7 @@ pub(crate) fn collect<'a, G>(alloc: Global, line: Line<'a, G>) -> Result<Collect
     ensures { (plan : Plan) → IsLineOf plan (map core_of line.entry.cores.items) line.entry.joints.items
         → IfOk result (IsCollectedOf plan.run.query plan.run.job plan.run.cuts) }
 {
-    let mut sets: Vec<SinkSet> = Vec::new(alloc);
+    let mut sets = SinkSets::from_vec(Vec::new(alloc));
     let mut asked = Vec::new(alloc);
     let mut events = 0u64;
     for core in line.cores {
@@ -38,15 +38,14 @@ pub(crate) fn collect<'a, G>(alloc: Global, line: Line<'a, G>) -> Result<Collect
             Ok(own) => own,
             Err(broken) => return Err(NoMemory::from(broken)),
         };
-        let mut own = own.into_vec();
-        sets.append(&mut own)?;
+        sets.append(own)?;
         asked.push(requests)?;
         events = events.saturating_add(moved);
     }
     // The first core asks nothing.
     let crossed = without_first(asked);
     Ok(Collected {
-        sets: SinkSets::from_vec(sets),
+        sets,
         crossed,
         events,
     })

@@ -130,5 +130,5 @@ pub fn joined<R: Threads + Sync>(
     rows_are_distinct(job, query);
     let checkpoints = Checkpoints::take(alloc, job, &cuts)?;
     let sets = rows_at_once(rt, alloc, &checkpoints, query, cuts)?;
-    gather(alloc, sets.into_vec())
+    gather(alloc, sets)
 }

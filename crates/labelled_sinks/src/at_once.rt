@@ -8,7 +8,7 @@ use answer_sets::{Answers, rows_of_sinks};
 use epoch_summary::Asked;
 use merge_log::TermsReader;
 use no_memory::NoMemory;
-use sink_collect::SinkSet;
+use sink_collect::{SinkSet, SinkSets};
 use source_labels::SourceLabels;
 use std::alloc::Global;
 use std::thread::{Threads, join};
@@ -54,34 +54,33 @@ pub(crate) fn rows_of_parts<R: Threads + Sync>(
     labels: &SourceLabels,
     sinks: &[SinkLabel],
     workers: u32,
-) -> Result<Vec<SinkSet>, NoMemory>
+) -> Result<SinkSets, NoMemory>
     requires { SinksStand labels.now sinks.now }
-    ensures { IfOk result (λ rows. rows.items ≡ map (row_by labels.now) sinks.now) }
+    ensures { IfOk result (λ rows. rows ≡ map (row_by labels.now) sinks.now) }
 {
     if workers < 2 || sinks.len() < 2 * FEWEST_SINKS {
-        return rows_in_order(alloc, labels, sinks);
+        return Ok(SinkSets::from_vec(rows_in_order(alloc, labels, sinks)?));
     }
     let some = workers / 2;
     let others = workers - some;
     let (first, rest) = sinks.split_at(sinks_of_share(sinks.len(), some, workers));
-    let front = || -> Result<Vec<SinkSet>, NoMemory>
+    let front = || -> Result<SinkSets, NoMemory>
         requires { IsSync R.row × SinksStand labels.now first.now }
-        ensures { IfOk result (λ rows. rows.items ≡ map (row_by labels.entry.now) first.entry.now) }
+        ensures { IfOk result (λ rows. rows ≡ map (row_by labels.entry.now) first.entry.now) }
     { rows_of_parts(rt, alloc, labels, first, some) };
-    let back = || -> Result<Vec<SinkSet>, NoMemory>
+    let back = || -> Result<SinkSets, NoMemory>
         requires { IsSync R.row × SinksStand labels.now rest.now }
-        ensures { IfOk result (λ rows. rows.items ≡ map (row_by labels.entry.now) rest.entry.now) }
+        ensures { IfOk result (λ rows. rows ≡ map (row_by labels.entry.now) rest.entry.now) }
     { rows_of_parts(rt, alloc, labels, rest, others) };
     let (rows, more) = join(rt, front, back);
     joined(rows?, more?)
 }
 
 /// Rows, and then more of them. It fails only where there is no memory.
-fn joined(rows: Vec<SinkSet>, more: Vec<SinkSet>) -> Result<Vec<SinkSet>, NoMemory>
-    ensures { IfOk result (λ all. all.items ≡ rows.items ++ more.items) }
+fn joined(rows: SinkSets, more: SinkSets) -> Result<SinkSets, NoMemory>
+    ensures { IfOk result (λ all. all ≡ rows ++ more) }
 {
     let mut rows = rows;
-    let mut more = more;
-    rows.append(&mut more)?;
+    rows.append(more)?;
     Ok(rows)
 }

@@ -5,7 +5,7 @@ ghost use Rattle.labelled_sinks.specs.Rows.{SinksStand, row_by};
 
 use crate::at_once::{rows_in_order, rows_of_parts};
 use no_memory::NoMemory;
-use sink_collect::SinkSet;
+use sink_collect::{SinkSet, SinkSets};
 use source_labels::SourceLabels;
 use std::alloc::Global;
 use std::marker::Model;
@@ -55,8 +55,8 @@ impl LabelledSinks {
         rt: &R,
         alloc: Global,
         workers: u32,
-    ) -> Result<Vec<SinkSet>, NoMemory>
-        ensures { IfOk result (λ rows. rows.items ≡ self.now) }
+    ) -> Result<SinkSets, NoMemory>
+        ensures { IfOk result (λ rows. rows ≡ self.now) }
     {
         rows_of_parts(rt, alloc, &self.labels, &self.sinks, workers)
     }

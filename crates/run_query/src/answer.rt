@@ -17,7 +17,7 @@ use no_memory::NoMemory;
 use query_lang::Query;
 use replayer::Job;
 use seq_taint::rows_are_distinct;
-use sink_collect::{Report, SinkSet, gather};
+use sink_collect::{Report, SinkSet, SinkSets, gather};
 use std::alloc::Global;
 
 /// What a query answers over a run that is cut into epochs.
@@ -36,9 +36,9 @@ pub(crate) fn report_of(
     alloc: Global,
     job: &Job,
     query: &Query,
-    sets: Vec<SinkSet>,
+    sets: SinkSets,
 ) -> Result<Report, NoMemory>
-    requires { sets.items ≡ rows_as_written query.now (trace_of job.now) }
+    requires { sets ≡ rows_as_written query.now (trace_of job.now) }
     ensures { IfOk result (λ report. report ≡ rows query.now (trace_of job.now)) }
 {
     rows_are_distinct(job, query);
@@ -64,7 +64,7 @@ pub fn answer_with(
         crossed,
         events,
     } = collected;
-    let report = report_of(alloc, job, query, sets.into_vec())?;
+    let report = report_of(alloc, job, query, sets)?;
     let crossed = number(alloc, crossed)?;
     Ok(QueryAnswer {
         report,
@@ -85,7 +85,7 @@ pub(crate) fn answer_of_one(
     ensures { (cuts : List ℕ) → length cuts ≡ 1 → IfOk result (IsAnswerTo query.now job.now cuts) }
 {
     let events = (sets.len() as u64).saturating_add(4);
-    let report = report_of(alloc, job, query, sets)?;
+    let report = report_of(alloc, job, query, SinkSets::from_vec(sets))?;
     let crossed = Vec::new(alloc);
     Ok(QueryAnswer {
         report,
@@ -131,5 +131,5 @@ pub(crate) fn report_of_epochs<E: Engine>(
     ensures { IfOk result (λ report. report ≡ rows query.now (trace_of job.now)) }
 {
     let sets = engine.rows(checkpoints, query, cuts, parallelism)?;
-    report_of(alloc, job, query, sets.into_vec())
+    report_of(alloc, job, query, sets)
 }

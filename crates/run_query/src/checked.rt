@@ -23,7 +23,7 @@ use query_lang::Query;
 use replay_log::Log;
 use replayer::{CheckFault, Job};
 use seq_taint::check_whole;
-use sink_collect::Report;
+use sink_collect::{Report, SinkSets};
 use std::alloc::Global;
 
 /// Checks that a log fits a program, and gives the job of its run, and the report of a query over the run, of which this
@@ -51,7 +51,7 @@ pub fn check_and_query<E: Engine>(
             if cuts.count() == 1 {
                 engine.enter(0);
                 let (job, sinks) = check_whole(alloc, program, log, query)?;
-                let report = report_of(alloc, &job, query, sinks.rows(alloc)?)?;
+                let report = report_of(alloc, &job, query, SinkSets::from_vec(sinks.rows(alloc)?))?;
                 return Ok((job, report));
             }
             query_epochs(engine, alloc, program, log, query, cuts, parallelism)
@@ -91,7 +91,7 @@ fn query_epochs<E: Engine>(
         }
         Joining::ByOneLog => {
             let (job, sets) = engine.checked_rows(program, log, query, cuts, parallelism)?;
-            let report = report_of(alloc, &job, query, sets.into_vec())?;
+            let report = report_of(alloc, &job, query, sets)?;
             Ok((job, report))
         }
     }

@@ -15,7 +15,7 @@ use no_memory::NoMemory;
 use query_lang::Query;
 use replayer::Job;
 use seq_taint::sequential;
-use sink_collect::Report;
+use sink_collect::{Report, SinkSets};
 use std::alloc::Global;
 
 /// The report of a query over a run that is cut into epochs, what crosses each inner cut, and how many events of its nodes
@@ -63,5 +63,5 @@ pub(crate) fn report<E: Engine>(
     }
     engine.enter(0);
     let sets = sequential(alloc, job, query)?;
-    report_of(alloc, job, query, sets)
+    report_of(alloc, job, query, SinkSets::from_vec(sets))
 }

@@ -200,7 +200,7 @@ fn assert_done(rt: &impl Abort, core: Core<'_, OpenGate>, case: &Case) {
     let (sets, asked, _events) = core.into_result().expect(rt, "memory");
     assert!(rt; asked.locations() == case.asked);
     match sets {
-        Ok(sets) => assert!(rt; case.whole && sets.into_vec().is_empty()),
+        Ok(sets) => assert!(rt; case.whole && sets.into_vec().expect(rt, "memory").is_empty()),
         Err(_) => assert!(rt; !case.whole),
     }
 }

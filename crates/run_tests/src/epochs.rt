@@ -250,7 +250,7 @@ fn joined_rows(rt: &impl Runtime, job: &Job, query: &Query, workers: u32) -> Vec
     let cuts = cuts(job.steps(), 1000).expect(rt, "few epochs");
     let points = Checkpoints::take(alloc, job, &cuts).expect(rt, "memory");
     let sets = epoch_line::rows(rt, alloc, &OpenGate, &points, query, cuts, parallelism);
-    sets.expect(rt, "memory").into_vec()
+    sets.expect(rt, "memory").into_vec().expect(rt, "memory")
 }
 
 /// The rows of thousands of sinks are those of the whole run, in its order, by one worker, and where each makes a part of them.

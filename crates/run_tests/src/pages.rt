@@ -5,7 +5,7 @@ use crate::runs::query_of;
 use page_data::{page, sources_of};
 use page_text::{push_head, push_tail};
 use seq_taint::sequential;
-use sink_collect::gather;
+use sink_collect::{SinkSets, gather};
 
 /// What a page of the copy of four bytes has of its rows: the output bytes go on from the first, and the points too.
 const ROWS: &str = "jet page 1\nrows\n1:0 0:0-1\n+++m:65792@8 0:0-1\n+";
@@ -41,7 +41,7 @@ fn a_page_is_its_data_between_two_texts(rt: HostRuntime) {
     let text = b"rule copy\nsource all\nsink all\nsink mem 65792 2 at 8\n";
     let wanted = query_of(&rt, text.as_slice());
     let sets = sequential(alloc, &job, &wanted).expect(&rt, "memory");
-    let report = gather(alloc, sets).expect(&rt, "memory");
+    let report = gather(alloc, SinkSets::from_vec(sets)).expect(&rt, "memory");
     let made = page(alloc, &job, &wanted, &report).expect(&rt, "memory");
     let digest = job.log().digest();
     let expected = page_of(&rt, ROWS, digest, TOLD);

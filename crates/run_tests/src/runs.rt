@@ -21,7 +21,7 @@ use outer_io::{Gate, OpenGate};
 use query_lang::{Query, parse};
 use replayer::Job;
 use seq_taint::sequential;
-use sink_collect::{Report, gather, text};
+use sink_collect::{Report, SinkSets, gather, text};
 use std::process::Abort;
 
 /// How many workers there are, and how many messages a link between two nodes holds.
@@ -116,7 +116,7 @@ fn joined_report(rt: &impl Runtime, job: &Job, wanted: &Query, length: u64) -> R
 fn sequential_report(rt: &impl Runtime, job: &Job, wanted: &Query) -> Report {
     let alloc = rt.alloc();
     let sets = sequential(alloc, job, wanted).expect(rt, "memory");
-    gather(alloc, sets).expect(rt, "memory")
+    gather(alloc, SinkSets::from_vec(sets)).expect(rt, "memory")
 }
 
 /// The report has this text.

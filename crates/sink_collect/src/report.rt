@@ -8,7 +8,7 @@ ghost use Rattle.sink_collect.specs.Distinct.{AreDistinct};
 ghost use Rattle.sink_collect.specs.Pairs.{pairs, capped};
 
 use crate::choosing::{chosen_part, is_chosen};
-use crate::sets::SinkSet;
+use crate::sets::{SinkSet, SinkSets};
 use crate::streams::by_stream;
 use no_memory::NoMemory;
 use query_lang::Query;
@@ -74,11 +74,11 @@ impl Report {
 
 /// The report of these sets: sorted by output byte or point, of which none may stand twice. It fails only where
 /// there is no memory.
-pub fn gather(alloc: Global, sets: Vec<SinkSet>) -> Result<Report, NoMemory>
-    requires { AreDistinct sets.items }
-    ensures { IfOk result (λ report. report ≡ set_of row_cmp sets.items) }
+pub fn gather(alloc: Global, sets: SinkSets) -> Result<Report, NoMemory>
+    requires { AreDistinct sets }
+    ensures { IfOk result (λ report. report ≡ set_of row_cmp sets) }
 {
-    let mut rows = by_stream(alloc, sets)?;
+    let mut rows = by_stream(alloc, sets.into_vec()?)?;
     sort(alloc, &mut rows)?;
     Ok(Report { rows })
 }

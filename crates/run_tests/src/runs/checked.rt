@@ -173,6 +173,6 @@ fn the_only_epoch_is_analysed_while_it_is_checked(rt: HostRuntime) {
     let (job, rows) = checked.expect(&rt, "a log that fits");
     assert!(rt; gate.is_entered_by_each_once());
     rows_are_distinct(&job, &wanted);
-    let found = gather(alloc, rows.into_vec()).expect(&rt, "memory");
+    let found = gather(alloc, rows).expect(&rt, "memory");
     assert_text(&rt, &found, COPIED);
 }
