@@ -91,7 +91,9 @@ impl SinkSets {
         ensures { IfOk result (λ sets. sets.items ≡ self) }
     {
         let SinkSets { first, more } = self;
+        let rest = more.iter().fold(0usize, |count, part| count.saturating_add(part.len()));
         let mut all = first;
+        all.reserve(rest)?;
         for part in more {
             let mut part = part;
             all.append(&mut part)?;
