@@ -78,7 +78,7 @@ pub fn gather(alloc: Global, sets: SinkSets) -> Result<Report, NoMemory>
     requires { AreDistinct sets }
     ensures { IfOk result (λ report. report ≡ set_of row_cmp sets) }
 {
-    let mut rows = by_stream(alloc, sets.into_vec()?)?;
+    let mut rows = by_stream(alloc, sets)?;
     sort(alloc, &mut rows)?;
     Ok(Report { rows })
 }

@@ -53,8 +53,8 @@ impl SinkSet {
 /// Sets of output bytes and points, in parts as several threads make them. Contracts see the list of all, one part after another.
 #[derive(Drop)]
 pub struct SinkSets {
-    first: Vec<SinkSet>,
-    more: Vec<Vec<SinkSet>>,
+    pub(crate) first: Vec<SinkSet>,
+    pub(crate) more: Vec<Vec<SinkSet>>,
 }
 
 impl Model for SinkSets {
@@ -91,7 +91,9 @@ impl SinkSets {
         ensures { IfOk result (λ sets. sets.items ≡ self) }
     {
         let SinkSets { first, more } = self;
-        let rest = more.iter().fold(0usize, |count, part| count.saturating_add(part.len()));
+        let rest = more
+            .iter()
+            .fold(0usize, |count, part| count.saturating_add(part.len()));
         let mut all = first;
         all.reserve(rest)?;
         for part in more {
