@@ -48,7 +48,8 @@ impl Cuts {
         ensures in_range { (1 ≤ result) × (result ≤ MOST_EPOCHS) }
     {
         match self.shape {
-            Shape::LongFirst { lengths } => epoch_count(self.steps, self.length) as u32 + 1 - lengths,
+            Shape::LongFirst { lengths } => epoch_count(self.steps, self.length) as u32 + 1
+                - lengths,
             Shape::Shrinking { epochs } => epochs,
         }
     }

@@ -49,7 +49,9 @@ fn cuts_of_computed(steps: u64, workers: u32) -> Cuts
 {
     long_first_times_are_cutting();
     let lengths = u64::from(workers) + u64::from(LENGTHS_OF_FIRST) - 1;
-    let length = steps.div_ceil(lengths).max(LEAST_LENGTH);
+    // The last epoch has three quarters of a length.
+    let quarters = 4 * lengths - 1;
+    let length = (4 * steps.div_ceil(quarters)).max(LEAST_LENGTH);
     match long_first_cuts(steps, length, LENGTHS_OF_FIRST) {
         Ok(cuts) => cuts,
         Err(CutFault::TooMany(_)) => unreachable!(),

@@ -84,14 +84,14 @@ many_epochs = (refl, refl)
 
 -- one that is told; one worker has one epoch, by either kind of rule
 lengths :
-    (epoch_length (Some 7) 4 2400000 ≡ 7) × (epoch_length None 1 2400000 ≡ 800000) × (cuts_by None Compute 1 2400000 ≡ 2400000 ∷ [])
-    × (cuts_by None Copy 1 2400000 ≡ 2400000 ∷ []) × (epoch_length None 4 2400000 ≡ 400000) × (epoch_length None 4 1000000 ≡ 262144)
+    (epoch_length (Some 7) 4 2400000 ≡ 7) × (epoch_length None 1 2400000 ≡ 872728) × (cuts_by None Compute 1 2400000 ≡ 2400000 ∷ [])
+    × (cuts_by None Copy 1 2400000 ≡ 2400000 ∷ []) × (epoch_length None 4 2400000 ≡ 417392) × (epoch_length None 4 1000000 ≡ 262144)
 unfolding cut_times_from shrinking_times
 lengths = (refl, refl, refl, refl, refl, refl)
 
--- four workers have one epoch each of a long run, the first of three lengths, and fewer of a shorter one
+-- four workers have one epoch each of a long run, the first of three lengths and the last of three quarters, and fewer of a shorter one
 four_epochs :
-    (cuts_by None Compute 4 2400000 ≡ 1200000 ∷ 1600000 ∷ 2000000 ∷ 2400000 ∷ []) × (cuts_by None Index 4 1000000 ≡ 786432 ∷ 1000000 ∷ [])
+    (cuts_by None Compute 4 2400000 ≡ 1252176 ∷ 1669568 ∷ 2086960 ∷ 2400000 ∷ []) × (cuts_by None Index 4 1000000 ≡ 786432 ∷ 1000000 ∷ [])
     × (cuts_by None Compute 4 600000 ≡ 600000 ∷ [])
 unfolding cut_times_from
 four_epochs = (refl, refl, refl)
@@ -105,7 +105,7 @@ shorter_epochs = (refl, refl, refl, refl)
 
 -- the last is shorter where the steps are no multiple
 rounded_up :
-    (epoch_length None 4 2400001 ≡ 400001) × (cuts_by None Compute 4 2400001 ≡ 1200003 ∷ 1600004 ∷ 2000005 ∷ 2400001 ∷ [])
+    (epoch_length None 4 2300001 ≡ 400004) × (cuts_by None Compute 4 2300001 ≡ 1200012 ∷ 1600016 ∷ 2000020 ∷ 2300001 ∷ [])
     × (cuts_by None Copy 4 2400001 ≡ 1200010 ∷ 1920016 ∷ 2280019 ∷ 2400001 ∷ [])
     × (cut_times 2000001 500001 ≡ 500001 ∷ 1000002 ∷ 1500003 ∷ 2000001 ∷ [])
 unfolding cut_times cut_times_from shrinking_times

@@ -31,10 +31,14 @@ few_of_length n length q some one within =
 
 pub untold_lengths-few : (workers n : ℕ) → epoch_count n (epoch_length None workers n) ≤ workers + 2
 untold_lengths-few workers n =
-    let ceil = div_ceil_times n (workers + 2) (omega arith) in
+    let lengths = workers + 2 in
+    let quarters = 4 * lengths - 1 in
+    let quarter = div_ceil n quarters in
+    let ceil = div_ceil_times n quarters (omega arith) in
     let length = epoch_length None workers n in
-    few_of_length n length (workers + 2) (omega arith) (omega arith)
-    (omega (arith, ceil.0, mul-le (workers + 2) (div_ceil n (workers + 2)) (workers + 2) length (omega arith) (omega arith)))
+    let within : n ≤ lengths * (4 * quarter) = omega (arith, ceil.0, mul-le quarter quarters quarter (4 * lengths) (omega arith) (omega arith)) in
+    few_of_length n length lengths (omega arith) (omega arith)
+    (omega (arith, within, mul-le lengths (4 * quarter) lengths length (omega arith) (omega arith)))
 
 moves-few : (workers n : ℕ) → 1 ≤ workers → length (times_of_moves workers n) ≤ workers
 unfolding shrinking_times

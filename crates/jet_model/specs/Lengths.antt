@@ -1,5 +1,5 @@
 -- How long the epochs of a run are.
-use Rattle.std.specs.Prelude.{ℕ, ◌+◌, ◌/◌, max, min, List, Option, Some, None}
+use Rattle.std.specs.Prelude.{ℕ, ◌+◌, ◌-◌, ◌*◌, ◌/◌, max, min, List, Option, Some, None}
 use Rattle.std.specs.Int.{div_ceil}
 use Rattle.flow_model.specs.declared.Rule.{Rule}
 use Rattle.flow_model.specs.declared.Rule.TheVariants.{Copy, Keep, Compute, Index}
@@ -14,10 +14,10 @@ abbrev pub lengths_of_first : ℕ
 lengths_of_first = 3
 
 -- the length of the epochs of a run of so many steps: as the words tell it, or, where the first has several lengths, such that
--- there is an epoch for each worker
+-- there is an epoch for each worker, and the last one, which begins last, has three quarters of a length
 abbrev pub epoch_length : Option ℕ → ℕ → ℕ → ℕ
 epoch_length (Some told) workers steps = told
-epoch_length None workers steps = max least_length (div_ceil steps (workers + 2))
+epoch_length None workers steps = max least_length (4 * div_ceil steps (4 * (workers + 2) - 1))
 
 -- how many epochs get shorter: as many as workers, 8 at most, and no more than the run has of the least length
 abbrev pub shrinking_epochs : ℕ → ℕ → ℕ

@@ -38,17 +38,17 @@ returns c =
     let short : cut_at s by c.match-self.lengths ≡ c.min.result = cut_short c.match-self.lengths by s c.saturating_mul.result c.min.result (omega (arith, c.self.ranges)) c.saturating_mul.ensures c.min.ensures in
     elim c.match-self.branch [
       | in-LongFirst w ↦
-        let first = w.in-LongFirst.lengths in
-        let seen : times_of (LongFirst first) s by ≡ now = subst (λ shape. times_of shape s by ≡ now) w.in-LongFirst.is c.self.view_is in
-        let few : k ≤ length (cut_times_from first s by) = subst (λ cuts. k ≤ length cuts) (sym seen) c.requires in
-        let lengths : first + k - 1 ≡ c.match-self.lengths = omega (arith, w.from.ensures, w.from-in-LongFirst.ensures, w.lengths-is) in
-        subst (λ cuts. slice_get (0 ∷ cuts) k ≡ Some c.min.result) seen
-        (at_long_first first s by k some few ∙ ap Some (ap (cut_at s by) lengths ∙ short))
+          let first = w.in-LongFirst.lengths in
+          let seen : times_of (LongFirst first) s by ≡ now = subst (λ shape. times_of shape s by ≡ now) w.in-LongFirst.is c.self.view_is in
+          let few : k ≤ length (cut_times_from first s by) = subst (λ cuts. k ≤ length cuts) (sym seen) c.requires in
+          let lengths : first + k - 1 ≡ c.match-self.lengths = omega (arith, w.from.ensures, w.from-in-LongFirst.ensures, w.lengths-is) in
+          subst (λ cuts. slice_get (0 ∷ cuts) k ≡ Some c.min.result) seen
+          (at_long_first first s by k some few ∙ ap Some (ap (cut_at s by) lengths ∙ short))
       | in-Shrinking w ↦
-        let epochs = w.in-Shrinking.epochs in
-        let seen : times_of (Shrinking epochs) s by ≡ now = subst (λ shape. times_of shape s by ≡ now) w.in-Shrinking.is c.self.view_is in
-        let few : k ≤ epochs = omega (arith, subst (λ cuts. k ≤ length cuts) (sym seen) c.requires, shrinking-counted epochs s by) in
-        let lengths : lengths_of_last epochs - lengths_of_last (epochs - k) ≡ c.match-self.lengths = cc in
-        subst (λ cuts. slice_get (0 ∷ cuts) k ≡ Some c.min.result) seen
-        (shrinking-multiples epochs s by k some few ∙ ap Some (ap (cut_at s by) lengths ∙ short))
+          let epochs = w.in-Shrinking.epochs in
+          let seen : times_of (Shrinking epochs) s by ≡ now = subst (λ shape. times_of shape s by ≡ now) w.in-Shrinking.is c.self.view_is in
+          let few : k ≤ epochs = omega (arith, subst (λ cuts. k ≤ length cuts) (sym seen) c.requires, shrinking-counted epochs s by) in
+          let lengths : lengths_of_last epochs - lengths_of_last (epochs - k) ≡ c.match-self.lengths = cc in
+          subst (λ cuts. slice_get (0 ∷ cuts) k ≡ Some c.min.result) seen
+          (shrinking-multiples epochs s by k some few ∙ ap Some (ap (cut_at s by) lengths ∙ short))
     ]
