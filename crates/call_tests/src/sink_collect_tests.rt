@@ -9,8 +9,8 @@ use memory_outside::MemorySink;
 use outer_io::{Buffer, InPieces, Pieces, write_in_pieces};
 use query_lang::{Query, parse};
 use sink_collect::{
-    Report, SinkSet, SinkSets, gather, influence_text, put_influence, put_numbered, put_rows, put_text, text,
-    texts_at_once, turn_round,
+    Report, SinkSet, SinkSets, gather, influence_text, put_influence, put_numbered, put_rows,
+    put_text, text, texts_at_once, turn_round,
 };
 use source_ranges::SourceSet;
 use std::thread::Threads;

@@ -50,7 +50,7 @@ loop-core-preserved g c =
       done = i.done ++ n ∷ [];
       split = append_assoc i.front (core ∷ []) rest ∙ split;
       are = next.push n refl refl;
-      sets = c.in_ok-append.ensures.items ∙ ap₂ (λ (xs ys : List Row). xs ++ ys) i.sets c.into_vec-own.ensures ∙ sym (rows_push i.done n);
+      sets = c.in_ok-append.ensures ∙ ap (λ (xs : List Row). xs ++ n.rows) i.sets ∙ sym (rows_push i.done n);
       asked = c.in_ok-push.ensures.items ∙ ap (λ (ls : List (List Loc)). ls ++ n.asked ∷ []) i.asked ∙ sym (map_push (λ (m : DoneNode). m.asked) i.done n);
       events = capped_more c.loop-core.events n.events (sum_by (λ (m : DoneNode). m.events) i.done) n.events _ _ i.events refl c.saturating_add-events.ensures (events_push i.done n);
     }
@@ -65,7 +65,7 @@ returns g c = λ plan l.
     let line = done_line plan true (epochs_of plan.run) i.done _ c.args.line.joints.items l.stand (subst (λ cs. AreNodesOf i.done cs c.args.line.joints.items) all i.are) in
     let come = done_lines_come plan.run i.done l.cutting l.located line in
     record {
-      rows = c.from_vec.ensures ∙ i.sets ∙ come.rows;
+      rows = i.sets ∙ come.rows;
       crossed = c.without_first-crossed.ensures ∙ ap (λ (ls : List (List Loc)). drop 1 ls) i.asked ∙ come.crossed_are;
       events = i.events ∙ come.events;
     }

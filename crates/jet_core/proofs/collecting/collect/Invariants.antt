@@ -14,7 +14,7 @@ invariant-loop-core g l = record {
   done : List DoneNode;
   split : front ++ map core_of (into_iter_items l.core-iterator) ≡ map core_of l.fn.line.cores.items;
   are : AreNodesOf done front l.fn.line.joints.items;
-  sets : l.sets.items ≡ flat_map (λ (n : DoneNode). n.rows) done;
+  sets : l.sets ≡ flat_map (λ (n : DoneNode). n.rows) done;
   asked : l.asked.items ≡ map (λ (n : DoneNode). n.asked) done;
   events : l.events ≡ capped (sum_by (λ (n : DoneNode). n.events) done);
 }

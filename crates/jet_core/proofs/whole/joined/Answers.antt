@@ -14,10 +14,10 @@ rows_at_once-requires-after_bounds g c κs within =
 
 pub gather-requires : goal.gather-requires
 gather-requires g c =
-    let rows = c.into_vec.ensures ∙ c.in_ok-sets.ensures ∙ ap (λ (points : CheckpointsAt). rows_as_written c.args.query.now (trace_of points.job)) c.in_ok-checkpoints.ensures in
+    let rows = c.in_ok-sets.ensures ∙ ap (λ (points : CheckpointsAt). rows_as_written c.args.query.now (trace_of points.job)) c.in_ok-checkpoints.ensures in
     subst AreDistinct (sym rows) c.rows_are_distinct.ensures
 
 pub returns : goal.returns
 returns g c =
-    let rows = c.into_vec.ensures ∙ c.in_ok-sets.ensures ∙ ap (λ (points : CheckpointsAt). rows_as_written c.args.query.now (trace_of points.job)) c.in_ok-checkpoints.ensures in
+    let rows = c.in_ok-sets.ensures ∙ ap (λ (points : CheckpointsAt). rows_as_written c.args.query.now (trace_of points.job)) c.in_ok-checkpoints.ensures in
     subst (λ (rs : List Row). IfOk c.gather.result (λ report. report ≡ set_of row_cmp rs)) rows c.gather.ensures

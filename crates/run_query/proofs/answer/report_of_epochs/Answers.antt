@@ -10,4 +10,4 @@ rows-requires-clause-checkpoints g c =
 
 pub report_of-requires : goal.report_of-requires
 report_of-requires g c =
-    c.into_vec.ensures ∙ c.in_ok-sets.ensures ∙ ap (λ p. rows_as_written c.args.query.now (trace_of p.job)) c.requires.checkpoints
+    c.in_ok-sets.ensures ∙ ap (λ p. rows_as_written c.args.query.now (trace_of p.job)) c.requires.checkpoints
