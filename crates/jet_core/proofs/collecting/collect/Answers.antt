@@ -22,7 +22,7 @@ loop-core-init g c = record {
   done = [];
   split = ap (map (core_of {G = g.row.G.Denot})) c.into_iter-core-iterator.ensures.into_iter_gives.0;
   are = tt;
-  sets = c.new-sets.ensures.items;
+  sets = c.from_vec-sets.ensures ∙ c.new.ensures.items;
   asked = c.new-asked.ensures.items;
   events = refl;
 }
