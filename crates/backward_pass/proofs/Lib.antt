@@ -1,6 +1,5 @@
 mod Needs
 mod Walks
-mod Sorting
 mod Counting
 mod Lists
 mod Starts

@@ -14,7 +14,7 @@ ghost use Rattle.backward_pass.specs.Needs.{IsAmong, IsNeed};
 use crate::asking::{add_all, add_start};
 use epoch_summary::Asked;
 use flow_model::Loc;
-use merge_log::{Entry, MergeLog};
+use merge_log::{Entry, MergeLog, ascend};
 use no_memory::NoMemory;
 use source_labels::Nodes;
 use std::alloc::Global;
@@ -123,15 +123,6 @@ fn fit(needs: &mut Vec<usize>, size: usize) -> Result<(), NoMemory>
         needs.resize(size, 0)?;
     }
     Ok(())
-}
-
-/// Makes a set of a list: its members ascending, each once.
-fn ascend<T: Ord + Copy>(items: &mut Vec<T>)
-    ensures members { (x : T) → has T.cmp x items.new.items ≡ has T.cmp x items.old.items }
-    ensures ascending { Ascends T.cmp items.new.items }
-{
-    items.sort_unstable();
-    items.dedup();
 }
 
 /// Walks the nodes under a node that weren't walked. It gives them in an order in which each stands after its operands,

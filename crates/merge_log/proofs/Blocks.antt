@@ -1,8 +1,7 @@
 -- Nodes without a mask, one by one and by blocks.
-use Rattle.std.proofs.Common.{◌≡◌, ◌≢◌, ℕ, ◌-◌, ◌*◌, ◌<◌, ◌≤◌, ◌/◌, ◌%◌, List, length, min, refl, ap, sym, ◌∙◌, subst, Bool, true, false, nat_lt, arith, slice_index, slice_get, inl, inr}
+use Rattle.std.proofs.Common.{◌≡◌, ◌≢◌, ℕ, ◌*◌, ◌<◌, ◌≤◌, ◌/◌, ◌%◌, List, length, min, ap, sym, ◌∙◌, subst, Bool, true, false, arith, slice_get, inl, inr}
 use Rattle.std.specs.Prelude.{Some}
 use Rattle.std.proofs.Math.ListN.{set}
-use Rattle.std.proofs.lemmas.Grind.{common_steps}
 use Rattle.std.proofs.lemmas.List.{get_or-set_other, get_or-set_same, length-set}
 use Rattle.std.proofs.lemmas.Option.{slice_get_within, slice_get-get_or, get_or_from_slice_get}
 use Rattle.lists.proofs.Tests.{true-false}

@@ -1,10 +1,10 @@
 -- A walk by masks: what was found of a root, and what is left under nodes that have its bit.
-use Rattle.std.proofs.Common.{◌≡◌, ◌≢◌, ℕ, ◌+◌, ◌<◌, ◌≤◌, ◌==◌, List, length, refl, ap, sym, ◌∙◌, subst, Bool, true, false, ◌||◌, arith, slice_index, max, ◌*◌, ◌^◌, ◌%◌, ◌⊎◌, inl, inr}
+use Rattle.std.proofs.Common.{◌≡◌, ◌≢◌, ℕ, ◌+◌, ◌<◌, ◌≤◌, List, length, refl, ap, sym, ◌∙◌, subst, true, false, ◌||◌, arith, slice_index, max, ◌*◌, ◌^◌, ◌%◌, ◌⊎◌, inl, inr}
 use Rattle.std.specs.Prelude.{Some}
 use Rattle.std.specs.Int.{bit_at, w64}
 use Rattle.std.specs.Int.RustNames.{bit_or}
 use Rattle.std.proofs.Math.ListN.{set}
-use Rattle.std.proofs.lemmas.Grind.{common_steps, get_or-set_at}
+use Rattle.std.proofs.lemmas.Grind.{get_or-set_at}
 use Rattle.std.proofs.lemmas.List.{get_or-set_other, length-set}
 use Rattle.std.proofs.lemmas.Nat.Bits.{bit_at_or, bit_at-zero, bit_at-lt, bit_at_set_same, bit_at_set_other}
 use Rattle.std.proofs.lemmas.Bool.{or_left, or_right, or_cases}
@@ -13,7 +13,7 @@ use Rattle.merge_log.specs.declared.nodes.Entry.{Entry}
 use Rattle.merge_log.specs.declared.nodes.Entry.TheVariants.{Union}
 use Rattle.merge_log.specs.declared.reader.Leaf.{Leaf}
 use Rattle.merge_log.specs.declared.reader.Leaf.TheVariants as leaf
-use Rattle.merge_log.specs.Log.{Terms, no_terms, joined, terms, HasOperandsBefore, entry_at}
+use Rattle.merge_log.specs.Log.{Terms, no_terms, terms, HasOperandsBefore, entry_at}
 use Rattle.merge_log.specs.Walk.{has_leaf}
 use Rattle.merge_log.specs.Masks.{HasBit, IsClearFrom, IsCover, IsLeftToo, found_at, with_leaves}
 use Rattle.merge_log.proofs.Leaves.{has-joined, leaves_terms}

@@ -67,6 +67,13 @@ impl MergeLog {
         }
     }
 
+    /// Makes room for so many nodes more, where there is memory for them.
+    pub fn reserve(&mut self, more: usize)
+        ensures { self.new ≡ self.old }
+    {
+        let _reserved = self.entries.reserve(more).is_ok();
+    }
+
     /// The number of nodes, node 0 included.
     pub fn size(&self) -> u64
         ensures { result ≡ length self.now + 1 }

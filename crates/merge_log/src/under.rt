@@ -40,6 +40,9 @@ impl StartsUnder {
         ensures { IsTrue result → (log : List AnyEntry) → AreUnder log self.now.leaves.items self.now.masks.items
             → Covers log node leaf }
     {
+        if self.leaves.is_empty() {
+            return false;
+        }
         let bit = self.mask(leaf).trailing_zeros() as usize;
         if bit >= MOST_LEAVES || bit >= self.leaves.len() {
             return false;
@@ -50,8 +53,26 @@ impl StartsUnder {
         (self.mask(node) >> bit) & 1 == 1
     }
 
-    /// Notes those under a new node of this entry. Where there is no memory for it, none is noted.
+    /// Notes those under a new node of this entry. Where there is no memory for it, none is noted. A log that has no start location
+    /// takes none.
     pub fn note(&mut self, node: u32, entry: Entry)
+        requires node { 0 < node }
+        requires operands { HasOperandsBefore node entry }
+        ensures { (log : List AnyEntry) → AreOrdered 1 log → entry_at log node ≡ Some entry
+            → AreUnder log self.old.leaves.items self.old.masks.items
+            → AreUnder log self.new.leaves.items self.new.masks.items }
+    {
+        if self.leaves.is_empty() {
+            if !is_start(entry) {
+                return;
+            }
+            pad(&mut self.masks, node as usize - 1);
+        }
+        self.note_next(node, entry);
+    }
+
+    /// The same, where each node before has a mask.
+    fn note_next(&mut self, node: u32, entry: Entry)
         requires node { 0 < node }
         requires operands { HasOperandsBefore node entry }
         ensures { (log : List AnyEntry) → AreOrdered 1 log → entry_at log node ≡ Some entry
@@ -96,5 +117,22 @@ impl StartsUnder {
             Some(mask) => *mask,
             None => 0,
         }
+    }
+}
+
+/// Whether an entry is that of a start location.
+fn is_start(entry: Entry) -> bool {
+    match entry {
+        Entry::Start(_) => true,
+        Entry::Source(_) | Entry::Run { .. } | Entry::Union { .. } => false,
+    }
+}
+
+/// Makes so many masks at least: those that are new have no bit. Where there is no memory for them, none is made.
+fn pad(masks: &mut Vec<u64>, size: usize)
+    ensures { (i : ℕ) → slice_index masks.new.items i ≡ slice_index masks.old.items i }
+{
+    if masks.len() < size {
+        let _padded = masks.resize(size, 0).is_ok();
     }
 }

@@ -30,6 +30,13 @@ impl SourceLabels {
         }
     }
 
+    /// Makes room for so many nodes more, where there is memory for them.
+    pub fn reserve(&mut self, more: usize)
+        ensures { self.new ≡ self.old }
+    {
+        self.nodes.reserve(more);
+    }
+
     /// The same labels, each with its terms: it stands for the source bytes among them.
     pub fn nodes(&self) -> &Nodes
         ensures { result.now ≡ nodes_of self.now }

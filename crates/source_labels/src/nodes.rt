@@ -29,6 +29,13 @@ impl Nodes {
         }
     }
 
+    /// Makes room for so many nodes more, where there is memory for them.
+    pub(crate) fn reserve(&mut self, more: usize)
+        ensures { self.new ≡ self.old }
+    {
+        self.log.reserve(more);
+    }
+
     /// The log whose nodes are labels.
     pub fn log(&self) -> &MergeLog
         ensures { result.now ≡ log_of self.now }

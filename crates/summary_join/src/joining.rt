@@ -89,8 +89,30 @@ fn label(
     ensures { (run : CutTrace) → IsUpTo run labels cut pieces.items sinks.items
         → IfOk result (λ all. all ≡ rows_as_written run.query run.trace) }
 {
+    make_room(&mut labels, &mut sinks, &pieces)?;
     while let Some(piece) = pieces.pop() {
         cut = join_epoch(alloc, &mut labels, &cut, piece, &mut sinks)?;
     }
     Ok(LabelledSinks::new(labels, sinks))
+}
+
+/// Makes room for the nodes and the sinks of these pieces, so that neither the one log nor the list grows step by step: to put a
+/// large log's nodes into a larger table takes as long as to make them.
+fn make_room(
+    labels: &mut SourceLabels,
+    sinks: &mut Vec<SinkLabel>,
+    pieces: &[Piece],
+) -> Result<(), NoMemory>
+    ensures labels { labels.new ≡ labels.old }
+    ensures sinks { sinks.new.items ≡ sinks.old.items }
+{
+    let mut nodes = 0usize;
+    let mut rows = 0usize;
+    for piece in pieces {
+        nodes = nodes.saturating_add(piece.needed_nodes());
+        rows = rows.saturating_add(piece.summary.sink_count());
+    }
+    labels.reserve(nodes);
+    sinks.reserve_exact(rows)?;
+    Ok(())
 }

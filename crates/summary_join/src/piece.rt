@@ -45,6 +45,11 @@ impl Piece {
         };
         Ok((piece, asked))
     }
+
+    /// How many nodes of its log are needed.
+    pub fn needed_nodes(&self) -> usize {
+        self.marks.iter().filter(|is_needed| **is_needed).count()
+    }
 }
 
 /// The labels of these locations at the epoch's end.

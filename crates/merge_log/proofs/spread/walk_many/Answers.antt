@@ -1,4 +1,4 @@
-use Rattle.std.proofs.Common.{arith, refl, ◌≡◌, ◌<◌, ◌∙◌, ℕ, ap, sym, subst, List, length, slice_index}
+use Rattle.std.proofs.Common.{arith, refl, ◌<◌, ◌∙◌, ℕ, ap, sym, subst, List, length, slice_index}
 use Rattle.merge_log.specs.Masks.{HasBit, IsClearFrom, found_at}
 use Rattle.merge_log.proofs.Covering.{taken_room, clear_taken, all_taken, cover_ends, first_cover, no_bit, nothing_cover}
 use Rattle.merge_log.proofs.spread.walk_many.Goals as goal
